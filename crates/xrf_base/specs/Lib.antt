@@ -1,0 +1,5 @@
+pub mod Padding
+pub mod Names
+pub mod Values
+pub mod Ranges
+pub mod Numbers

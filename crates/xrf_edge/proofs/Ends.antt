@@ -1,5 +1,5 @@
 -- what several reads or writes do to the bytes that are told
-use Rattle.std.proofs.Common.{◌≡◌, ◌+◌, ◌-◌, ◌≤◌, ◌∙◌, ap, sym, subst, refl, ℕ, List, [], ◌∷◌, ◌++◌, length, take, drop, append_assoc, append-nil, length-append, arith, Option, None, Some, rules}
+use Rattle.std.proofs.Common.{◌+◌, ◌-◌, ◌∙◌, ap, sym, subst, ℕ, List, ◌++◌, length, take, drop, append_assoc, Option, None, Some}
 use Rattle.std.proofs.Math.Seq.{take-add}
 use Rattle.std.specs.Io.KnownBytes.{Appends, Consumes}
 use Rattle.xrf_edge.proofs.Pieces.{left_from}

@@ -1,5 +1,5 @@
 -- a piece of what a source in memory has left
-use Rattle.std.proofs.Common.{◌≡◌, ◌+◌, ◌-◌, ◌<◌, ◌≤◌, ◌∙◌, ap, sym, ℕ, List, [], ◌++◌, length, take, drop, min, arith}
+use Rattle.std.proofs.Common.{◌≡◌, ◌+◌, ◌-◌, ◌<◌, sym, ℕ, List, [], ◌++◌, length, take, drop, min, arith}
 use Rattle.std.proofs.Math.ListN.{drop_of_length-le}
 use Rattle.std.proofs.lemmas.List.{take_all, length-drop, drop-drop, take-append-drop}
 

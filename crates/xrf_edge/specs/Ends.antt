@@ -1,5 +1,5 @@
 -- what a whole read and a whole write do to the bytes that a source has left and a sink holds, where they are told
-use Rattle.std.specs.Prelude.{◌≡◌, ◌-◌, ℕ, List, [], length, take, Option, None, Some, IfSome}
+use Rattle.std.specs.Prelude.{◌≡◌, ◌-◌, ℕ, List, [], length, take, Option, Some, IfSome}
 use Rattle.std.specs.Io.KnownBytes.{Appends, Consumes}
 
 -- the bytes are all that was left, and none is left

@@ -1,0 +1,23 @@
+-- The work of one unit: BEGIN first, then at most 60 PUTs, then COMMIT, each naming the unit of BEGIN.
+use Rattle.std.specs.Prelude.{◌≡◌, ℕ, ◌≤◌, Bool, true, false, ◌&&◌, nat_eq, nat_le, List, [], ◌∷◌, length, IsTrue}
+use Rattle.std.specs.Cmp.Lexicographic.{pointwise}
+use Rattle.xrf_base.specs.Names.{is_name}
+use Rattle.xrf_base.specs.Values.{is_value}
+use Rattle.xrf_base.specs.declared.items.Item.{Item}
+use Rattle.xrf_base.specs.declared.items.Item.TheVariants.{Begin, Put, Get, Commit, Roll, Logon, Logoff, Shutdown, ShutdownTakeover, Signon, Signoff}
+
+-- PUTs of the unit and at last, or not yet, its COMMIT
+abbrev pub is_unit_rest : List ℕ → List Item → Bool
+is_unit_rest unit [] = true
+is_unit_rest unit (Put name number value ∷ items) = pointwise nat_eq name unit && nat_le number 65535 && is_value value && is_unit_rest unit items
+is_unit_rest unit (Commit name ∷ []) = pointwise nat_eq name unit
+is_unit_rest unit (_ ∷ items) = false
+
+-- no work, or one unit
+abbrev pub is_work : List Item → Bool
+is_work [] = true
+is_work (Begin unit ∷ items) = is_name unit && is_unit_rest unit items
+is_work (_ ∷ items) = false
+
+abbrev pub IsWork : List Item → Type 0
+IsWork items = IsTrue (is_work items)

@@ -1,10 +1,10 @@
 -- What is found of a line is spelled so, and what is spelled so is found.
-use Rattle.std.proofs.Common.{◌≡◌, ◌⊎◌, inl, inr, ◌≤◌, ◌<◌, ◌+◌, ◌-◌, ◌==◌, ◌&&◌, ◌||◌, not, ℕ, zero, suc, Bool, true, false, cond, if◌then◌else◌, Option, Some, None, List, [], ◌∷◌, ◌++◌, codes, length, take, drop, refl, sym, ◌∙◌, ap, nat_lt, nat_le, nat_eq, arith, rules, subst, get_or, slice_index, IfSome, IfNone, append_assoc}
+use Rattle.std.proofs.Common.{◌≡◌, ◌⊎◌, inl, inr, ◌≤◌, ◌<◌, ◌+◌, ◌==◌, ℕ, Bool, true, false, if◌then◌else◌, Option, Some, None, List, [], ◌∷◌, ◌++◌, codes, length, take, drop, refl, sym, ◌∙◌, ap, nat_lt, nat_eq, arith, subst, IfSome, IfNone}
 use Rattle.std.specs.Option.{option_map, option_and_then}
-use Rattle.std.specs.List.{position_or_len, list_all}
+use Rattle.std.specs.List.{list_all}
 use Rattle.std.specs.Fmt.{decimal}
 use Rattle.std.specs.Char.{is_ascii_digit}
-use Rattle.std.specs.Cmp.Lexicographic.{pointwise, same_text, nat_list_eq_equiv}
+use Rattle.std.specs.Cmp.Lexicographic.{pointwise, same_text}
 use Rattle.std.proofs.lemmas.List.{take-append-drop}
 use Rattle.std.proofs.lemmas.List.{length-append}
 use Rattle.std.proofs.lemmas.Bool.{eqb-true, ltb-true, lt-ltb}
@@ -13,11 +13,10 @@ use Rattle.xrf_scenario.proofs.LineLaws.{take-further, drop-further}
 use Rattle.std.proofs.lemmas.Fmt.{digits_decimal}
 use Rattle.xrf_base.specs.Names.{is_name, IsName, name_of, is_name_byte}
 use Rattle.xrf_base.specs.Values.{is_value, IsValue, value_of}
-use Rattle.xrf_base.specs.declared.items.Item.{Item}
 use Rattle.xrf_base.specs.declared.items.Item.TheVariants.{Begin, Put, Get, Commit, Roll, Logon, Logoff, Shutdown, ShutdownTakeover, Signon, Signoff}
 use Rattle.xrf_base.proofs.Texts.{both-left, both-right, name-no_blank}
-use Rattle.xrf_scenario.specs.Numbers.{is_number, number_of, value_behind}
-use Rattle.xrf_scenario.specs.Spelling.{spell, IsLine, IsItem, item_text, choice_text, blank}
+use Rattle.xrf_scenario.specs.Numbers.{number_of}
+use Rattle.xrf_scenario.specs.Spelling.{spell, IsLine, blank}
 use Rattle.xrf_scenario.specs.Shapes.{behind, first_blank, split_blank, number_in, fixed_line, file_line, steps_line, record_line, begin_line, commit_line, put_rest, put_line, setting_line, line_of, first_of_two}
 use Rattle.xrf_scenario.specs.declared.choice.Choice.TheVariants.{StartActive, Step}
 use Rattle.xrf_scenario.specs.declared.line.Line.{Line}

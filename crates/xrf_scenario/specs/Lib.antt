@@ -4,3 +4,6 @@ pub mod Spelling
 pub mod Shapes
 pub mod Work
 pub mod Scenario
+pub mod Reading
+pub mod Machine
+pub mod Said

@@ -1,5 +1,5 @@
 -- What a scenario is: settings, first records and the work of site A.
-use Rattle.std.specs.Prelude.{◌≡◌, ℕ, ◌≤◌, ◌<◌, ◌+◌, Bool, List, [], ◌∷◌, length, Option, Some, None, IfSome, get_or, IsTrue}
+use Rattle.std.specs.Prelude.{◌≡◌, ℕ, ◌≤◌, List, length, Option, None, IfSome, get_or}
 use Rattle.std.specs.List.{AllByRecursion}
 use Rattle.xrf_base.specs.Values.{IsValue}
 use Rattle.xrf_base.specs.declared.items.Item.{Item}

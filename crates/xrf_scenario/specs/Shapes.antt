@@ -1,11 +1,10 @@
 -- The line that a text spells, found part by part.
-use Rattle.std.specs.Prelude.{◌≡◌, ℕ, ◌+◌, ◌==◌, ◌&&◌, nat_eq, nat_le, nat_lt, List, [], ◌∷◌, ◌++◌, length, take, drop, codes, Option, Some, None, if◌then◌else◌}
+use Rattle.std.specs.Prelude.{ℕ, ◌+◌, ◌==◌, ◌&&◌, nat_eq, nat_le, nat_lt, List, length, take, drop, codes, Option, Some, None, if◌then◌else◌}
 use Rattle.std.specs.Option.{option_map, option_and_then}
 use Rattle.std.specs.List.{position_or_len}
 use Rattle.std.specs.Cmp.Lexicographic.{pointwise}
 use Rattle.xrf_base.specs.Names.{name_of}
 use Rattle.xrf_base.specs.Values.{value_of}
-use Rattle.xrf_base.specs.declared.items.Item.{Item}
 use Rattle.xrf_base.specs.declared.items.Item.TheVariants.{Begin, Put, Commit}
 use Rattle.xrf_scenario.specs.Numbers.{number_of}
 use Rattle.xrf_scenario.specs.declared.choice.Choice.TheVariants.{StartActive, Step}

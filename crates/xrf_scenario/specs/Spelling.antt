@@ -1,5 +1,5 @@
 -- How each line is spelled, and which lines there are.
-use Rattle.std.specs.Prelude.{◌≡◌, ℕ, ◌≤◌, List, [], ◌∷◌, ◌++◌, codes}
+use Rattle.std.specs.Prelude.{ℕ, ◌≤◌, List, ◌∷◌, ◌++◌, codes}
 use Rattle.std.specs.Fmt.{decimal}
 use Rattle.xrf_base.specs.Names.{IsName}
 use Rattle.xrf_base.specs.Values.{IsValue}

@@ -1,10 +1,10 @@
 -- The work of one unit: BEGIN first, then at most 60 PUTs, then COMMIT, each naming the unit of BEGIN.
-use Rattle.std.specs.Prelude.{◌≡◌, ℕ, ◌≤◌, Bool, true, false, ◌&&◌, nat_eq, nat_le, List, [], ◌∷◌, length, IsTrue}
+use Rattle.std.specs.Prelude.{ℕ, Bool, true, false, ◌&&◌, nat_eq, nat_le, List, [], ◌∷◌, IsTrue}
 use Rattle.std.specs.Cmp.Lexicographic.{pointwise}
 use Rattle.xrf_base.specs.Names.{is_name}
 use Rattle.xrf_base.specs.Values.{is_value}
 use Rattle.xrf_base.specs.declared.items.Item.{Item}
-use Rattle.xrf_base.specs.declared.items.Item.TheVariants.{Begin, Put, Get, Commit, Roll, Logon, Logoff, Shutdown, ShutdownTakeover, Signon, Signoff}
+use Rattle.xrf_base.specs.declared.items.Item.TheVariants.{Begin, Put, Commit}
 
 -- PUTs of the unit and at last, or not yet, its COMMIT
 abbrev pub is_unit_rest : List ℕ → List Item → Bool
@@ -21,3 +21,13 @@ is_work (_ ∷ items) = false
 
 abbrev pub IsWork : List Item → Type 0
 IsWork items = IsTrue (is_work items)
+
+abbrev pub is_commit : Item → Bool
+is_commit (Commit unit) = true
+is_commit _ = false
+
+-- whether the last of the items is a COMMIT
+abbrev pub ends_in_commit : List Item → Bool
+ends_in_commit [] = false
+ends_in_commit (item ∷ []) = is_commit item
+ends_in_commit (item ∷ next ∷ items) = ends_in_commit (next ∷ items)

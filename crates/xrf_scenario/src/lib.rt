@@ -5,9 +5,15 @@ pub mod choice;
 pub mod line;
 mod lines;
 mod number;
+pub mod reading;
+pub mod reason;
 pub mod scenario;
 mod shape;
+pub mod text;
+mod work;
 
 pub use choice::Choice;
 pub use line::Line;
+pub use reason::{Fault, ReadBad, Reason};
 pub use scenario::{Numbered, Scenario};
+pub use text::read;

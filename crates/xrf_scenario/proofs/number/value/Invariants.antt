@@ -1,4 +1,4 @@
-use Rattle.std.proofs.Common.{◌≡◌, ◌<◌, ◌^◌, ℕ, drop}
+use Rattle.std.proofs.Common.{◌≡◌, ◌<◌, ◌^◌, drop}
 use Rattle.xrf_scenario.specs.Numbers.{value_behind}
 use Rattle.xrf_scenario.proofs.number.value.Given as goal
 

@@ -1,0 +1,4 @@
+pub mod Trace
+pub mod Next
+pub mod Items
+pub mod Runs

@@ -1,0 +1,64 @@
+-- What a choice does, and what a run of choices is.
+use Rattle.std.specs.Prelude.{◌≡◌, ℕ, ◌+◌, List, [], ◌∷◌, Option, Some, None, Result, Ok, Err}
+use Rattle.xrf_scenario.specs.Scenario.{Scen}
+use Rattle.xrf_scenario.specs.declared.choice.Choice.{Choice}
+use Rattle.xrf_scenario.specs.declared.choice.Choice.TheVariants.{StartActive as Start, Step}
+use Rattle.xrf_world.specs.declared.act.Act.{Act}
+use Rattle.xrf_world.specs.declared.act.Act.TheVariants.{StartActive}
+use Rattle.xrf_world.specs.declared.entry.Entry.{Entry}
+use Rattle.xrf_world.specs.declared.entry.Refused.{Refused}
+use Rattle.xrf_world.specs.declared.entry.Refused.TheVariants.{NotEnabled}
+use Rattle.xrf_world.specs.declared.entry.Who.TheVariants.{A}
+use Rattle.xrf_world.specs.Trace.{region_number, number_after}
+use Rattle.xrf_world.specs.Next.{next}
+
+-- the entry that an act makes; the act that gives the region its number carries it already
+abbrev pub entry : List Entry → Act → Entry
+entry t act = record { tick = 0; who = A; inc = number_after act (region_number t); act = act }
+
+-- a start is refused where a region is there
+abbrev pub start : List Entry → Result Entry Refused
+start [] = Ok (entry [] StartActive)
+start (e ∷ t) = Err NotEnabled
+
+-- a step is refused where no act is next
+abbrev pub step : List Entry → Option Act → Result Entry Refused
+step t (Some act) = Ok (entry t act)
+step t None = Err NotEnabled
+
+-- the entry that a choice adds, or why it is refused
+abbrev pub outcome : Scen → List Entry → Choice → Result Entry Refused
+outcome s t Start = start t
+outcome s t Step = step t (next s t)
+
+-- the first choice that is refused, by its place from 0, and the reason
+pub record Refusal : Type 0 where
+  pub place : ℕ
+  pub reason : Refused
+
+-- the run of a list of choices in the order in which they are made
+abbrev pub run_from : Scen → List Entry → ℕ → List Choice → Result (List Entry) Refusal
+run_from s t place [] = Ok t
+run_from s t place (c ∷ cs) =
+    elim (outcome s t c) [ Ok e ↦ run_from s (e ∷ t) (place + 1) cs | Err why ↦ Err (record { place = place; reason = why }) ]
+
+abbrev pub run : Scen → List Choice → Result (List Entry) Refusal
+run s cs = run_from s [] 0 cs
+
+-- each entry is one that a choice adds to the trace before it
+abbrev pub IsRun : Scen → List Entry → Type 0
+IsRun s [] = Unit {0}
+IsRun s (e ∷ t) = IsRun s t × ((c : Choice) × (outcome s t c ≡ Ok e))
+
+-- a World: a scenario and the trace of a run
+pub record Run : Type 0 where
+  pub scenario : Scen
+  pub trace : List Entry
+
+-- what a choice does to it: the entry is added, or the choice is refused and nothing changes
+abbrev pub Made : Run → Result Entry Refused → Result (Unit {0}) Refused → Run → Type 0
+Made old (Ok e) result new = (result ≡ Ok tt) × (new ≡ record { scenario = old.scenario; trace = e ∷ old.trace })
+Made old (Err why) result new = (result ≡ Err why) × (new ≡ old)
+
+abbrev pub Applied : Run → Choice → Result (Unit {0}) Refused → Run → Type 0
+Applied old c result new = Made old (outcome old.scenario old.trace c) result new

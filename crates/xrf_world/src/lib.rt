@@ -1,0 +1,10 @@
+//! The pair at work: a run of site A's region, one choice at a time, and its journal.
+#![tactic(auto)]
+
+pub mod act;
+pub mod entry;
+pub mod state;
+
+pub use act::{Act, Control, Decided, LogRec, Owner, OwnerState, Signal};
+pub use entry::{Entry, Refused, Who};
+pub use state::{Counts, ItemState, JobState, LogCounts};

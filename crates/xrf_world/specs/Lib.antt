@@ -2,3 +2,4 @@ pub mod Trace
 pub mod Next
 pub mod Items
 pub mod Runs
+pub mod Standing

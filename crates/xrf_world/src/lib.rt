@@ -2,7 +2,9 @@
 #![tactic(auto)]
 
 pub mod act;
+mod answers;
 pub mod entry;
+mod next;
 pub mod state;
 
 pub use act::{Act, Control, Decided, LogRec, Owner, OwnerState, Signal};

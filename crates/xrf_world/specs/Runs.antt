@@ -9,27 +9,28 @@ use Rattle.xrf_world.specs.declared.entry.Entry.{Entry}
 use Rattle.xrf_world.specs.declared.entry.Refused.{Refused}
 use Rattle.xrf_world.specs.declared.entry.Refused.TheVariants.{NotEnabled}
 use Rattle.xrf_world.specs.declared.entry.Who.TheVariants.{A}
-use Rattle.xrf_world.specs.Trace.{region_number, number_after}
+use Rattle.xrf_world.specs.Trace.{newest, region_number, number_after}
 use Rattle.xrf_world.specs.Next.{next}
 
--- the entry that an act makes; the act that gives the region its number carries it already
-abbrev pub entry : List Entry → Act → Entry
-entry t act = record { tick = 0; who = A; inc = number_after act (region_number t); act = act }
+-- the entry that an act makes where the region has this number, 0 before it is given; the act that
+-- gives the number carries it already
+abbrev pub entry : ℕ → Act → Entry
+entry number act = record { tick = 0; who = A; inc = number_after act number; act = act }
 
--- a start is refused where a region is there
-abbrev pub start : List Entry → Result Entry Refused
-start [] = Ok (entry [] StartActive)
-start (e ∷ t) = Err NotEnabled
+-- a start is refused where the region is there, and so an act is the newest
+abbrev pub start : Option Act → Result Entry Refused
+start None = Ok (entry 0 StartActive)
+start (Some act) = Err NotEnabled
 
 -- a step is refused where no act is next
-abbrev pub step : List Entry → Option Act → Result Entry Refused
-step t (Some act) = Ok (entry t act)
-step t None = Err NotEnabled
+abbrev pub step : ℕ → Option Act → Result Entry Refused
+step number (Some act) = Ok (entry number act)
+step number None = Err NotEnabled
 
 -- the entry that a choice adds, or why it is refused
 abbrev pub outcome : Scen → List Entry → Choice → Result Entry Refused
-outcome s t Start = start t
-outcome s t Step = step t (next s t)
+outcome s t Start = start (newest t)
+outcome s t Step = step (region_number t) (next s t)
 
 -- the first choice that is refused, by its place from 0, and the reason
 pub record Refusal : Type 0 where

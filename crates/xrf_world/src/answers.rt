@@ -1,6 +1,6 @@
 //! The answers of the work's items, kept by number.
 
-ghost use Rattle.std.specs.Prelude.{◌≡◌, ℕ, Option, if◌then◌else◌};
+ghost use Rattle.std.specs.Prelude.{◌≡◌, ℕ, Option, if◌then◌else◌, length};
 ghost use Rattle.xrf_base.specs.declared.items.ItemAnswer.{ItemAnswer};
 ghost use Rattle.xrf_world.specs.Next.{in_file};
 ghost use Rattle.xrf_world.specs.Items.{answer_at_once, answer_of_record, answer_by, answer_after, state_of};

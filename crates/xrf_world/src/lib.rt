@@ -4,7 +4,10 @@
 pub mod act;
 mod answers;
 pub mod entry;
+mod kept;
 mod next;
+mod outcome;
+mod progress;
 pub mod state;
 
 pub use act::{Act, Control, Decided, LogRec, Owner, OwnerState, Signal};

@@ -1,0 +1,67 @@
+//! What a choice does.
+
+ghost use Rattle.std.specs.Prelude.{◌≡◌, List};
+ghost use Rattle.std.specs.Option.{option_and_then};
+ghost use Rattle.xrf_world.specs.declared.entry.Entry.{Entry};
+ghost use Rattle.xrf_world.specs.Next.{after};
+ghost use Rattle.xrf_world.specs.Runs.{entry, start, step, outcome};
+ghost use Rattle.xrf_world.specs.Standing.{Follows};
+
+use crate::act::Act;
+use crate::entry::{Entry, Refused, Who};
+use crate::next::act_after;
+use crate::progress::{Progress, number_given};
+use xrf_base::Inc;
+use xrf_scenario::{Choice, Scenario};
+
+fn entry_of(number: Inc, act: Act) -> Entry
+    ensures { result ≡ entry number act }
+{
+    Entry {
+        tick: 0,
+        who: Who::A,
+        inc: number_given(&act, number),
+        act,
+    }
+}
+
+fn next_act(scenario: &Scenario, progress: &Progress) -> Option<Act>
+    ensures { result ≡ option_and_then (after scenario.now progress.now.counts) progress.now.newest }
+{
+    match progress.newest {
+        Some(act) => act_after(scenario, progress.counts, act),
+        None => None,
+    }
+}
+
+fn start_entry(newest: &Option<Act>) -> Result<Entry, Refused>
+    ensures { result ≡ start newest.now }
+{
+    match newest {
+        None => Ok(entry_of(0, Act::StartActive)),
+        Some(_) => Err(Refused::NotEnabled),
+    }
+}
+
+fn step_entry(number: Inc, act: Option<Act>) -> Result<Entry, Refused>
+    ensures { result ≡ step number act }
+{
+    match act {
+        Some(act) => Ok(entry_of(number, act)),
+        None => Err(Refused::NotEnabled),
+    }
+}
+
+/// The entry that a choice adds, or why it is refused.
+pub(crate) fn entry_by(
+    scenario: &Scenario,
+    progress: &Progress,
+    choice: &Choice,
+) -> Result<Entry, Refused>
+    ensures { (t : List Entry) → Follows progress.now t → result ≡ outcome scenario.now t choice.now }
+{
+    match choice {
+        Choice::StartActive => start_entry(&progress.newest),
+        Choice::Step => step_entry(progress.number, next_act(scenario, progress)),
+    }
+}

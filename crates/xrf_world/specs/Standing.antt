@@ -6,6 +6,7 @@ use Rattle.xrf_world.specs.declared.entry.Entry.{Entry}
 use Rattle.xrf_world.specs.declared.progress.Progress.{Progress}
 use Rattle.xrf_world.specs.declared.kept.Kept.{Kept}
 use Rattle.xrf_world.specs.Items.{answer}
+use Rattle.xrf_world.specs.Runs.{IsRun}
 use Rattle.xrf_world.specs.Trace as trace
 use Rattle.xrf_world.specs.Trace.{has_commit, log, region_number}
 
@@ -29,3 +30,9 @@ pub record Stands (kept : Kept) (s : Scen) (t : List Entry) : Type 0 where
   pub answers : KeptByNumber kept.answers.items (answer s t)
   pub places : length kept.image.items ≡ s.file
   pub items : length kept.answers.items ≡ length s.work
+
+-- a World: its trace is that of a run, what is kept stands for it, and the journal has its memory
+pub record IsWorld (s : Scen) (journal : List Entry) (capacity : ℕ) (kept : Kept) : Type 0 where
+  pub run : IsRun s (reverse journal)
+  pub stands : Stands kept s (reverse journal)
+  pub room : capacity ≡ 8192

@@ -1,6 +1,6 @@
 //! The answers of the work's items, kept by number.
 
-ghost use Rattle.std.specs.Prelude.{◌≡◌, ℕ, Option, if◌then◌else◌, length};
+ghost use Rattle.std.specs.Prelude.{◌≡◌, ◌+◌, ◌<◌, ℕ, Option, if◌then◌else◌, length};
 ghost use Rattle.xrf_base.specs.declared.items.ItemAnswer.{ItemAnswer};
 ghost use Rattle.xrf_world.specs.Next.{in_file};
 ghost use Rattle.xrf_world.specs.Items.{answer_at_once, answer_of_record, answer_by, answer_after, state_of};
@@ -79,6 +79,14 @@ pub(crate) fn keep_answer(answers: &mut [Option<ItemAnswer>], last: u32, given: 
     if place < answers.len() {
         answers[place] = given;
     }
+}
+
+/// The answer that is kept at a place from 0.
+pub(crate) fn answer_at(answers: &[Option<ItemAnswer>], k: usize) -> Option<ItemAnswer>
+    requires place { k < length answers.now }
+    ensures { (f : ℕ → Option ItemAnswer) → KeptByNumber answers.now f → result ≡ f (k + 1) }
+{
+    answers[k]
 }
 
 /// The state of an item by its answer.

@@ -9,7 +9,9 @@ mod next;
 mod outcome;
 mod progress;
 pub mod state;
+pub mod world;
 
 pub use act::{Act, Control, Decided, LogRec, Owner, OwnerState, Signal};
 pub use entry::{Entry, Refused, Who};
 pub use state::{Counts, ItemState, JobState, LogCounts};
+pub use world::World;

@@ -7,3 +7,5 @@ pub mod Scenario
 pub mod Reading
 pub mod Machine
 pub mod Said
+pub mod Canonical
+pub mod Pieces

@@ -1,10 +1,12 @@
 //! The scenario text: what it says, how it is read and how it is written.
 #![tactic(auto)]
 
+pub mod canonical;
 pub mod choice;
 pub mod line;
 mod lines;
 mod number;
+pub mod pieces;
 pub mod reading;
 pub mod reason;
 pub mod scenario;

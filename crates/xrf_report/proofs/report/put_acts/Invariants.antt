@@ -1,0 +1,10 @@
+use Rattle.std.proofs.Common.{◌≡◌, ◌++◌, ◌+◌, drop}
+use Rattle.xrf_report.specs.Report.{acts_text}
+use Rattle.xrf_report.proofs.report.put_acts.Given as goal
+
+-- the acts so far and those of the entries left are the acts
+abbrev pub invariant-loop-entry : goal.invariant-loop-entry
+invariant-loop-entry l = record {
+  whole : l.out.items ++ acts_text l.number (drop l.entry-index l.journal) ≡ l.fn.out.items ++ acts_text 1 l.journal;
+  place : l.number ≡ l.entry-index + 1;
+}

@@ -1,0 +1,7 @@
+use Rattle.std.proofs.Common.{◌≡◌, ◌++◌}
+use Rattle.xrf_report.specs.Report.{items_text}
+use Rattle.xrf_report.proofs.report.put_items.Given as goal
+
+-- as many items as were counted
+abbrev pub invariant-loop-k : goal.invariant-loop-k
+invariant-loop-k l = l.out.items ≡ l.fn.out.items ++ items_text l.world.scenario l.world.trace l.k

@@ -52,6 +52,7 @@ fn parts(reading: Reading) -> (Scenario, Vec<Numbered>)
     requires whole { is_whole reading.part ≡ true }
     ensures scenario { result.0 ≡ scenario_of (said reading) }
     ensures choices { result.1.items ≡ (said reading).choices }
+    ensures few { length result.1.items ≤ 8192 }
 {
     let file = reading.file_or_default();
     let Reading {
@@ -65,10 +66,12 @@ fn parts(reading: Reading) -> (Scenario, Vec<Numbered>)
 }
 
 /// The scenario and the choices that a text spells, each choice with the number of its line; else
-/// the first bad line, counted from 1, with its reason. A text is of at most 4,194,304 bytes.
+/// the first bad line, counted from 1, with its reason. A text is of at most 4,194,304 bytes, and
+/// what is read has at most 8,192 choices.
 pub fn read(alloc: Global, text: &[u8]) -> Result<(Scenario, Vec<Numbered>), ReadBad>
     requires { length text.now ≤ 4194304 }
     ensures found { IfOk result (λ r. Reads text.now r.0 r.1.items) }
+    ensures few { IfOk result (λ r. length r.1.items ≤ 8192) }
     ensures bad { IfErr result (λ e. IsBad text.now e) }
 {
     match read_lines(alloc, text) {

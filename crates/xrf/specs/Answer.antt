@@ -1,0 +1,76 @@
+-- What the top call answers, and what it has written then.
+use Rattle.std.specs.Prelude.{◌≡◌, ◌⊎◌, ℕ, true, false, List, [], Option, Some, IfSome, MatchBool, String}
+use Rattle.std.specs.Global.{Global}
+use Rattle.std.specs.Io.KnownBytes.{Appends}
+use Rattle.xrf_edge.specs.Ends.{AppendsPrefix}
+use Rattle.xrf_edge.specs.Faults.{HasRisen}
+use Rattle.xrf.specs.Words.{is_replay, usage_line}
+use Rattle.xrf.specs.Refusals.{IsRefusal, refusal_line}
+use Rattle.xrf.specs.Made.{IsDocument}
+use Rattle.xrf.specs.declared.made.Made.{Made}
+use Rattle.xrf.specs.declared.made.Made.TheVariants.{Document, Refusal}
+use Rattle.xrf.specs.declared.made.Made.TheVariants.{NoMemory as Nothing}
+use Rattle.xrf.specs.declared.refusal.Reason.{Reason}
+use Rattle.xrf.specs.declared.status.Status.{Status}
+use Rattle.xrf.specs.declared.status.Status.TheVariants.{Done, Refused, Usage, ReadFault, WriteFault, NoMemory}
+
+-- an end, by the bytes that it tells (left in a source, held in a sink) and its count of faults
+pub record End : Type 0 where
+  pub bytes : Option (List ℕ)
+  pub faults : ℕ
+
+-- A text is written whole, and a status answered; or the sink's count has risen, and a front of it is written.
+abbrev pub Said : End → End → List ℕ → Status → Status → Type 0
+Said sink sink' text status result = ((result ≡ status) × Appends sink.bytes sink'.bytes text) ⊎ ((result ≡ WriteFault) × HasRisen sink.faults sink'.faults × AppendsPrefix sink.bytes sink'.bytes text)
+
+-- The sink has grown by the document of the input, which was read to its end.
+pub record Writes (bytes : List ℕ) (source' : End) (sink sink' : End) : Type 0 where
+  pub text : List ℕ
+  pub is : IsDocument bytes text
+  pub read : source'.bytes ≡ Some []
+  pub grown : Appends sink.bytes sink'.bytes text
+
+-- The sink has grown by the refusal of the input.
+pub record Refuses (bytes : List ℕ) (sink sink' : End) : Type 0 where
+  pub number : ℕ
+  pub reason : Reason
+  pub is : IsRefusal bytes number reason
+  pub grown : Appends sink.bytes sink'.bytes (refusal_line number reason)
+
+-- what is to be written of an input
+abbrev pub IsText : List ℕ → List ℕ → Type 0
+IsText bytes text = IsDocument bytes text ⊎ ((number : ℕ) × (reason : Reason) × IsRefusal bytes number reason × (text ≡ refusal_line number reason))
+
+-- The sink's count of faults has risen, and it has grown by a front of what was to be written of the input.
+pub record FailsWriting (source : End) (sink sink' : End) : Type 0 where
+  pub cause : HasRisen sink.faults sink'.faults
+  pub text : List ℕ
+  pub is : IfSome source.bytes (λ bytes. IsText bytes text)
+  pub grown : AppendsPrefix sink.bytes sink'.bytes text
+
+-- The answer to `replay`, over the ends before and after the call. A source that tells no bytes
+-- leaves open which input it was.
+abbrev pub Replayed : End → End → End → End → Status → Type 0
+Replayed source source' sink sink' Done = IfSome source.bytes (λ bytes. Writes bytes source' sink sink')
+Replayed source source' sink sink' Refused = IfSome source.bytes (λ bytes. Refuses bytes sink sink')
+Replayed source source' sink sink' Usage = ⊥
+Replayed source source' sink sink' ReadFault = HasRisen source.faults source'.faults × (sink' ≡ sink)
+Replayed source source' sink sink' WriteFault = FailsWriting source sink sink'
+Replayed source source' sink sink' NoMemory = sink' ≡ sink
+
+-- The answer to words that are none of the stated forms: the source is left as it was.
+abbrev pub ToldUsage : End → End → End → End → Status → Type 0
+ToldUsage source source' sink sink' status = (source' ≡ source) × Said sink sink' usage_line Usage status
+
+abbrev pub Answered : List (String Global) → End → End → End → End → Status → Type 0
+Answered words source source' sink sink' status = MatchBool (is_replay words) (Replayed source source' sink sink' status) (ToldUsage source source' sink sink' status)
+
+-- a refusal is written, unless there is no memory for its text
+abbrev pub Refusing : End → End → ℕ → Reason → Status → Type 0
+Refusing sink sink' number reason status = ((status ≡ NoMemory) × (sink' ≡ sink)) ⊎ Said sink sink' (refusal_line number reason) Refused status
+
+-- what is made of an input is written
+abbrev pub WritesMade : End → End → Made → Status → Type 0
+WritesMade sink sink' (Document text) status = Said sink sink' text.items Done status
+WritesMade sink sink' (Refusal number reason) status = Refusing sink sink' number reason status
+WritesMade sink sink' Nothing status = (status ≡ NoMemory) × (sink' ≡ sink)

@@ -1,0 +1,79 @@
+//! What is made of an input before anything is written.
+
+ghost use Rattle.std.specs.Prelude.{◌≡◌, ◌≤◌, [], IfOk, OnOk, length, ◌<◌, Some, slice_get, List, ℕ};
+ghost use Rattle.xrf.specs.Made.{IsMade};
+ghost use Rattle.xrf_scenario.specs.declared.scenario.Numbered.{Numbered};
+ghost use Rattle.xrf.specs.declared.made.Made.TheVariants.{Refusal};
+ghost use Rattle.xrf.specs.declared.refusal.Reason.TheVariants.{Choosing};
+ghost use Rattle.xrf.specs.Refusals.{plain};
+ghost use Rattle.xrf_scenario.specs.Reading.{Reads};
+
+use crate::refusal::Reason;
+use crate::running::{Stop, make_all};
+use std::alloc::{AllocError, Global};
+use xrf_report::document;
+use xrf_scenario::{Choice, Numbered, ReadBad, Scenario, read};
+use xrf_world::World;
+
+/// What is made of an input.
+#[derive(Drop)]
+pub enum Made {
+    /// The document.
+    Document(Vec<u8>),
+    /// The number of the line that is refused, and why.
+    Refusal(u32, Reason),
+    NoMemory,
+}
+
+fn plain(alloc: Global, numbered: &[Numbered]) -> Result<Vec<Choice>, AllocError>
+    ensures { IfOk result (λ choices. choices.items ≡ plain numbered.now) }
+{
+    let mut choices = Vec::new(alloc);
+    for one in numbered {
+        choices.push(one.choice)?;
+    }
+    Ok(choices)
+}
+
+// the refusal of the choice at which a run stops
+fn stopped(numbered: &[Numbered], stop: Stop) -> Made
+    requires { stop.place < length numbered.now }
+    ensures { (n : Numbered) × (slice_get numbered.now stop.place ≡ Some n) × (result ≡ Refusal n.line (Choosing stop.reason)) }
+{
+    Made::Refusal(numbered[stop.place].line, Reason::Choosing(stop.reason))
+}
+
+// the document of a scenario and its choices, or the refusal of one of them
+fn ran(alloc: Global, scenario: &Scenario, numbered: &[Numbered]) -> Result<Made, AllocError>
+    requires few { length numbered.now ≤ 8192 }
+    ensures { (bytes : List ℕ) → length bytes ≤ 4194304 → Reads bytes scenario.now numbered.now → IfOk result (IsMade bytes) }
+{
+    let choices = plain(alloc, numbered)?;
+    let mut world = World::new(alloc, scenario)?;
+    match make_all(&mut world, &choices) {
+        Ok(()) => Ok(Made::Document(document(alloc, scenario, &choices, &world)?)),
+        Err(stop) => Ok(stopped(numbered, stop)),
+    }
+}
+
+fn made_of_text(alloc: Global, text: &[u8]) -> Result<Made, AllocError>
+    requires { length text.now ≤ 4194304 }
+    ensures { IfOk result (IsMade text.now) }
+{
+    match read(alloc, text) {
+        Ok((scenario, numbered)) => ran(alloc, &scenario, &numbered),
+        Err(ReadBad::Bad(fault)) => Ok(Made::Refusal(fault.line, Reason::Grammar(fault.reason))),
+        Err(ReadBad::NoMemory) => Ok(Made::NoMemory),
+    }
+}
+
+/// What is made of an input of at most 4,194,304 bytes.
+pub fn made_of(alloc: Global, text: &[u8]) -> Made
+    requires { length text.now ≤ 4194304 }
+    ensures { IsMade text.now result }
+{
+    match made_of_text(alloc, text) {
+        Ok(made) => made,
+        Err(_) => Made::NoMemory,
+    }
+}

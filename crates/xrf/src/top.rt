@@ -1,0 +1,91 @@
+//! The top call.
+
+ghost use Rattle.std.specs.Prelude.{◌≡◌, ◌≤◌, false, true, nat_eq, string_bytes, codes};
+ghost use Rattle.std.specs.Cmp.Lexicographic.{pointwise};
+ghost use Rattle.xrf.specs.Words.{is_replay, usage_line};
+ghost use Rattle.xrf.specs.Answer.{End, Answered, Said, Refusing, WritesMade, Replayed};
+
+use crate::made::{Made, made_of};
+use crate::refusal::{Reason, refusal_text};
+use crate::status::Status;
+use std::alloc::Global;
+use xrf_edge::{ReadError, Sink, Source, read_all, write_all};
+
+const MOST: usize = 4_194_304;
+
+const USAGE: &[u8] = b"XRF USAGE replay | run | drive SEED N\n";
+
+fn is_replay_word(word: &str) -> bool
+    ensures { result ≡ pointwise nat_eq word.now (codes "replay") }
+{
+    word == "replay"
+}
+
+fn asks_replay(words: &[String]) -> bool
+    ensures { result ≡ is_replay words.now }
+{
+    match words {
+        [word] => is_replay_word(word.as_str()),
+        _ => false,
+    }
+}
+
+// writes a text, and answers a status where it is written whole
+fn say<K: Sink>(sink: &mut K, text: &[u8], status: Status) -> Status
+    ensures { Said (record { bytes = K.held sink.old; faults = K.faults sink.old }) (record { bytes = K.held sink.new; faults = K.faults sink.new }) text.now status result }
+{
+    match write_all(sink, text) {
+        Ok(()) => status,
+        Err(_) => Status::WriteFault,
+    }
+}
+
+fn refuse<K: Sink>(alloc: Global, sink: &mut K, number: u32, reason: Reason) -> Status
+    ensures { Refusing (record { bytes = K.held sink.old; faults = K.faults sink.old }) (record { bytes = K.held sink.new; faults = K.faults sink.new }) number reason result }
+{
+    match refusal_text(alloc, number, reason) {
+        Ok(text) => say(sink, &text, Status::Refused),
+        Err(_) => Status::NoMemory,
+    }
+}
+
+fn write_made<K: Sink>(alloc: Global, sink: &mut K, made: Made) -> Status
+    ensures { WritesMade (record { bytes = K.held sink.old; faults = K.faults sink.old }) (record { bytes = K.held sink.new; faults = K.faults sink.new }) made result }
+{
+    match made {
+        Made::Document(text) => say(sink, &text, Status::Done),
+        Made::Refusal(number, reason) => refuse(alloc, sink, number, reason),
+        Made::NoMemory => Status::NoMemory,
+    }
+}
+
+fn replay<S: Source, K: Sink>(alloc: Global, source: &mut S, sink: &mut K) -> Status
+    ensures { Replayed (record { bytes = S.left source.old; faults = S.faults source.old }) (record { bytes = S.left source.new; faults = S.faults source.new }) (record { bytes = K.held sink.old; faults = K.faults sink.old }) (record { bytes = K.held sink.new; faults = K.faults sink.new }) result }
+{
+    match read_all(alloc, source, MOST) {
+        Ok(text) => write_made(alloc, sink, made_of(alloc, &text)),
+        Err(ReadError::Fault) => Status::ReadFault,
+        Err(ReadError::TooLarge) => refuse(alloc, sink, 0, Reason::TooLarge),
+        Err(ReadError::NoMemory) => Status::NoMemory,
+    }
+}
+
+/// Answers the words that the program is called with. `replay` reads the source to its end, runs
+/// the scenario that it spells, and writes the document to the sink, or the line and the reason of
+/// its refusal. Other words are answered by the usage, and the source is left as it was. A fault of
+/// the source or the sink is answered only where its count of faults has risen, and want of memory
+/// only before anything is written.
+pub fn batch<S: Source, K: Sink>(
+    alloc: Global,
+    words: &[String],
+    source: &mut S,
+    sink: &mut K,
+) -> Status
+    ensures answered { Answered words.now (record { bytes = S.left source.old; faults = S.faults source.old }) (record { bytes = S.left source.new; faults = S.faults source.new }) (record { bytes = K.held sink.old; faults = K.faults sink.old }) (record { bytes = K.held sink.new; faults = K.faults sink.new }) result }
+{
+    if asks_replay(words) {
+        replay(alloc, source, sink)
+    } else {
+        say(sink, USAGE, Status::Usage)
+    }
+}

@@ -95,6 +95,7 @@ impl World {
     /// The journal, the oldest entry first: that of a run.
     pub fn journal(&self) -> &[Entry]
         ensures journal { result.now ≡ reverse self.now.trace }
+        ensures length { length result.now ≡ length self.now.trace }
         ensures run { IsRun self.now.scenario self.now.trace }
     {
         self.journal.as_slice()

@@ -88,12 +88,12 @@ step-made : (P : Act → Type 0) (number : ℕ) (act : Option Act) (e : Entry) �
 step-made P number (Some act) e holds is = subst (λ (x : Result Entry Refused). IfOk x (λ made. P made.act)) is holds
 step-made P number None e holds is = absurd (cc)
 
-start-made : (P : Act → Type 0) (act : Option Act) (e : Entry) → P StartActive → start act ≡ Ok e → P e.act
-start-made P None e holds is = subst (λ (x : Result Entry Refused). IfOk x (λ made. P made.act)) is holds
+start-made : (P : Act → Type 0) (act : Option Act) (e : Entry) → (act ≡ None → P StartActive) → start act ≡ Ok e → P e.act
+start-made P None e holds is = subst (λ (x : Result Entry Refused). IfOk x (λ made. P made.act)) is (holds refl)
 start-made P (Some act) e holds is = absurd (cc)
 
 pub outcome-made : (P : Act → Type 0) (s : Scen) (t : List Entry) (c : Choice) (e : Entry)
-    → P StartActive → IfSome (next s t) P → outcome s t c ≡ Ok e → P e.act
+    → (newest t ≡ None → P StartActive) → IfSome (next s t) P → outcome s t c ≡ Ok e → P e.act
 outcome-made P s t Start e started stepped is = start-made P (newest t) e started is
 outcome-made P s t Step e started stepped is = step-made P (region_number t) (next s t) e stepped is
 
@@ -106,7 +106,7 @@ pub taken_within : (s : Scen) (t : List Entry) → IsRun s t → taken t ≤ len
 taken_within s [] is = omega arith
 taken_within s (e ∷ t) is =
     let before = taken_within s t is.0 in
-    outcome-made (ItemsFit s (counts t)) s t is.1.0 e before (next-fits s t before) is.1.1
+    outcome-made (ItemsFit s (counts t)) s t is.1.0 e (λ _. before) (next-fits s t before) is.1.1
 
 -- the trace of a run is that of a run, and as long as the choices
 abbrev IsRunOf : Scen → ℕ → List Entry → Type 0

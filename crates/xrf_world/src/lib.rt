@@ -17,5 +17,5 @@ pub mod world;
 pub use act::{Act, Control, Decided, LogRec, Owner, OwnerState, Signal};
 pub use entry::{Entry, Refused, Who};
 pub use laws::runs_are_runs;
-pub use state::{Counts, ItemState, JobState, LogCounts};
+pub use state::{ItemState, JobState, LogCounts};
 pub use world::{JOURNAL_MOST, World};

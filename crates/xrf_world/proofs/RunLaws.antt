@@ -1,5 +1,5 @@
 -- What holds of every trace, and of that of every run.
-use Rattle.std.proofs.Common.{◌≡◌, ℕ, ◌+◌, ◌<◌, ◌≤◌, Bool, true, false, List, [], ◌∷◌, length, Option, Some, None, Result, Ok, Err, IfSome, IfOk, nat_lt, refl, arith, ap, subst, if◌then◌else◌}
+use Rattle.std.proofs.Common.{◌≡◌, ℕ, ◌+◌, ◌≤◌, Bool, true, false, List, [], ◌∷◌, length, Option, Some, None, Result, Ok, Err, IfSome, IfOk, nat_lt, refl, arith, subst, if◌then◌else◌}
 use Rattle.std.proofs.lemmas.Grind.{common_steps}
 use Rattle.std.specs.Option.{option_map}
 use Rattle.xrf_base.specs.declared.items.Item.{Item as WorkItem}
@@ -9,7 +9,7 @@ use Rattle.xrf_scenario.specs.Scenario.{Scen}
 use Rattle.xrf_scenario.specs.declared.choice.Choice.{Choice}
 use Rattle.xrf_scenario.specs.declared.choice.Choice.TheVariants.{StartActive as Start, Step}
 use Rattle.xrf_world.specs.declared.act.Act.{Act}
-use Rattle.xrf_world.specs.declared.act.Act.TheVariants.{StartActive, Reserve, CtlRead, CtlWrite, Release, Signal1, Signal2, Look1, Look2, Decide, LogRead, LogBody, LogOpen, FileRead, FileWrite, Item, Restarted}
+use Rattle.xrf_world.specs.declared.act.Act.TheVariants.{StartActive, LogBody, LogOpen, FileRead, FileWrite, Item, Restarted}
 use Rattle.xrf_world.specs.declared.act.LogRec.{LogRec}
 use Rattle.xrf_world.specs.declared.act.LogRec.TheVariants.{Put, Commit}
 use Rattle.xrf_world.specs.declared.entry.Entry.{Entry}
@@ -17,7 +17,7 @@ use Rattle.xrf_world.specs.declared.entry.Refused.{Refused}
 use Rattle.xrf_world.specs.declared.state.Counts.{Counts}
 use Rattle.xrf_world.specs.Trace.{count_item, taken, with_record, log, counts, newest, region_number}
 use Rattle.xrf_world.specs.Next.{only_unit, next_item, begin_put, begin_commit, begin_item, after_record, after, next, in_file, item_at, put_value}
-use Rattle.xrf_world.specs.Runs.{entry, start, step, outcome, run_from, run, IsRun}
+use Rattle.xrf_world.specs.Runs.{start, step, outcome, run_from, run, IsRun}
 
 -- an act takes one item at most
 pub count_item-le : (a : Act) (n : ℕ) → count_item a n ≤ n + 1
@@ -88,12 +88,12 @@ step-made : (P : Act → Type 0) (number : ℕ) (act : Option Act) (e : Entry) �
 step-made P number (Some act) e holds is = subst (λ (x : Result Entry Refused). IfOk x (λ made. P made.act)) is holds
 step-made P number None e holds is = absurd (cc)
 
-start-made : (P : Act → Type 0) (act : Option Act) (e : Entry) → P StartActive → start act ≡ Ok e → P e.act
-start-made P None e holds is = subst (λ (x : Result Entry Refused). IfOk x (λ made. P made.act)) is holds
+start-made : (P : Act → Type 0) (act : Option Act) (e : Entry) → (act ≡ None → P StartActive) → start act ≡ Ok e → P e.act
+start-made P None e holds is = subst (λ (x : Result Entry Refused). IfOk x (λ made. P made.act)) is (holds refl)
 start-made P (Some act) e holds is = absurd (cc)
 
 pub outcome-made : (P : Act → Type 0) (s : Scen) (t : List Entry) (c : Choice) (e : Entry)
-    → P StartActive → IfSome (next s t) P → outcome s t c ≡ Ok e → P e.act
+    → (newest t ≡ None → P StartActive) → IfSome (next s t) P → outcome s t c ≡ Ok e → P e.act
 outcome-made P s t Start e started stepped is = start-made P (newest t) e started is
 outcome-made P s t Step e started stepped is = step-made P (region_number t) (next s t) e stepped is
 
@@ -106,7 +106,7 @@ pub taken_within : (s : Scen) (t : List Entry) → IsRun s t → taken t ≤ len
 taken_within s [] is = omega arith
 taken_within s (e ∷ t) is =
     let before = taken_within s t is.0 in
-    outcome-made (ItemsFit s (counts t)) s t is.1.0 e before (next-fits s t before) is.1.1
+    outcome-made (ItemsFit s (counts t)) s t is.1.0 e (λ _. before) (next-fits s t before) is.1.1
 
 -- the trace of a run is that of a run, and as long as the choices
 abbrev IsRunOf : Scen → ℕ → List Entry → Type 0

@@ -3,3 +3,4 @@ pub mod Next
 pub mod Items
 pub mod Runs
 pub mod Standing
+pub mod Laws

@@ -1,6 +1,5 @@
 -- How a World's fields stand for its trace.
-use Rattle.std.specs.Prelude.{◌≡◌, ℕ, ◌+◌, ◌<◌, ◌≤◌, List, length, Option, None, reverse, slice_index_or}
-use Rattle.xrf_base.specs.declared.items.ItemAnswer.{ItemAnswer}
+use Rattle.std.specs.Prelude.{◌≡◌, ℕ, ◌+◌, ◌<◌, List, length, Option, None, reverse, slice_index_or}
 use Rattle.xrf_scenario.specs.Scenario.{Scen}
 use Rattle.xrf_world.specs.declared.entry.Entry.{Entry}
 use Rattle.xrf_world.specs.declared.progress.Progress.{Progress}

@@ -5,13 +5,17 @@ pub mod act;
 mod answers;
 pub mod entry;
 mod kept;
+pub mod laws;
 mod next;
 mod outcome;
 mod progress;
 pub mod state;
+#[cfg(test)]
+mod tests;
 pub mod world;
 
 pub use act::{Act, Control, Decided, LogRec, Owner, OwnerState, Signal};
 pub use entry::{Entry, Refused, Who};
-pub use state::{Counts, ItemState, JobState, LogCounts};
-pub use world::World;
+pub use laws::runs_are_runs;
+pub use state::{ItemState, JobState, LogCounts};
+pub use world::{JOURNAL_MOST, World};

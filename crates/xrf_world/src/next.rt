@@ -1,7 +1,6 @@
 //! The next act of site A's region, from the newest act and three counts of the run.
 
-ghost use Rattle.std.specs.Prelude.{◌≡◌, slice_get, ◌-◌};
-ghost use Rattle.xrf_world.specs.Trace.{with_record};
+ghost use Rattle.std.specs.Prelude.{◌≡◌};
 ghost use Rattle.xrf_world.specs.Next.{first_grant, first_signal, only_unit, item_at, in_file, next_item, begin_put, begin_commit, begin_item, put_value, after_record, after};
 
 use crate::act::{Act, Control, Decided, LogRec, Owner, OwnerState, Signal};

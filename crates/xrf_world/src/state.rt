@@ -32,8 +32,8 @@ pub struct LogCounts {
 /// What of a run the next act depends on: how many items were taken, how many log records are
 /// there, and whether a PUT is among them.
 #[derive(Clone, Copy, PartialEq, Eq)]
-pub struct Counts {
-    pub taken: u32,
-    pub records: u32,
-    pub put: bool,
+pub(crate) struct Counts {
+    pub(crate) taken: u32,
+    pub(crate) records: u32,
+    pub(crate) put: bool,
 }

@@ -1,6 +1,6 @@
 //! The World: the pair, its data sets and the journal of what happened.
 
-ghost use Rattle.std.specs.Prelude.{◌≡◌, ◌+◌, ◌<◌, ◌≤◌, ℕ, List, [], ◌∷◌, Option, None, Ok, IfOk, length, reverse, vec_capacity};
+ghost use Rattle.std.specs.Prelude.{◌≡◌, ◌+◌, ◌<◌, ◌≤◌, [], ◌∷◌, Ok, IfOk, length, reverse, vec_capacity};
 ghost use Rattle.xrf_scenario.specs.declared.choice.Choice.{Choice};
 ghost use Rattle.xrf_world.specs.Trace.{taken, log_counts};
 ghost use Rattle.xrf_world.specs.Trace as trace;
@@ -95,6 +95,7 @@ impl World {
     /// The journal, the oldest entry first: that of a run.
     pub fn journal(&self) -> &[Entry]
         ensures journal { result.now ≡ reverse self.now.trace }
+        ensures length { length result.now ≡ length self.now.trace }
         ensures run { IsRun self.now.scenario self.now.trace }
     {
         self.journal.as_slice()

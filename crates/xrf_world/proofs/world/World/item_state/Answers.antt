@@ -1,6 +1,5 @@
 -- The items that were taken are items of the work, and each item has its place.
 use Rattle.std.proofs.Common.{List, Option, arith, reverse, subst, sym}
-use Rattle.std.proofs.lemmas.Grind.{common_steps}
 use Rattle.xrf_base.specs.declared.items.ItemAnswer.{ItemAnswer}
 use Rattle.xrf_world.specs.Items.{answer}
 use Rattle.xrf_world.specs.Standing.{KeptByNumber}

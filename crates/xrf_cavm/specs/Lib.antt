@@ -1,0 +1,3 @@
+pub mod Record
+pub mod Grants
+pub mod Writes

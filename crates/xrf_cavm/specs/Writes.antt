@@ -1,5 +1,5 @@
 -- The new records of the other control writes.
-use Rattle.std.specs.Prelude.{ℕ, ◌==◌, ◌&&◌, Bool, true, false, not, if◌then◌else◌, Option, Some, None, is_some, option_map}
+use Rattle.std.specs.Prelude.{ℕ, ◌&&◌, not, if◌then◌else◌, Option, Some, None, is_some}
 use Rattle.xrf_ctl.specs.declared.parts.OwnerState.{OwnerState}
 use Rattle.xrf_ctl.specs.declared.parts.OwnerState.TheVariants.{Running, OffNormal}
 use Rattle.xrf_ctl.specs.declared.parts.Cause.{Cause}

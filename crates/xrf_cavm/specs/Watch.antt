@@ -47,6 +47,6 @@ pub record Watches (w : WatchState) (start : ℕ) (told : List Told) : Type 0 wh
   pub look : w.look ≡ last_look told
   pub change : w.change ≡ latest start (changes told)
 
--- an interval or more has passed since the last change
-abbrev pub is_lost : WatchState → ℕ → ℕ → Bool
-is_lost w interval now = nat_le interval (now - w.change)
+-- an interval or more has passed since the tick of the last change
+abbrev pub is_lost : ℕ → ℕ → ℕ → Bool
+is_lost change interval now = nat_le interval (now - change)

@@ -85,7 +85,7 @@ fn starts_itself(takeovr: Takeovr) -> bool
 // What the owner's end asks for, where it has ended.
 fn misses_owner(watch: &Watch, control: &Control, mode: Mode, now: Tick) -> bool
     requires { watch.now.change ≤ now }
-    ensures { result ≡ misses_owner watch.now control.now mode now }
+    ensures { result ≡ misses_owner watch.now.change control.now mode now }
 {
     owner_is(control, OwnerState::Running) && mode.surveillance && watch.is_lost(mode.adi, now)
 }
@@ -94,7 +94,7 @@ fn misses_owner(watch: &Watch, control: &Control, mode: Mode, now: Tick) -> bool
 /// that applies.
 pub fn decide(watch: &Watch, control: &Control, me: Inc, mode: Mode, now: Tick) -> Decision
     requires { watch.now.change ≤ now }
-    ensures { result ≡ decide watch.now control.now me mode now }
+    ensures { result ≡ decide watch.now.change control.now me mode now }
 {
     if mode.shutdown {
         return Decision::Leave(Why::Shutdown);
@@ -155,7 +155,7 @@ pub fn decide_active(
     now: Tick,
 ) -> Acting
     requires { watch.now.change ≤ now }
-    ensures { result ≡ decide_active watch.now control.now epoch pdi now }
+    ensures { result ≡ decide_active watch.now.change control.now epoch pdi now }
 {
     if control.taking().is_some() {
         return Acting::Seen;

@@ -93,7 +93,7 @@ impl Watch {
     /// An interval or more has passed since the last change.
     pub(crate) fn is_lost(&self, interval: u32, now: Tick) -> bool
         requires { self.now.change ≤ now }
-        ensures { result ≡ is_lost self.now interval now }
+        ensures { result ≡ is_lost self.now.change interval now }
     {
         now - self.change >= interval
     }

@@ -1,3 +1,5 @@
+ghost use Rattle.std.specs.Prelude.{◌≡◌, Ok, Some};
+
 use super::*;
 use std::test::Fail;
 use xrf_base::Site;
@@ -35,6 +37,19 @@ fn the_record_of_a_running_owner_has_its_bytes(rt: HostRuntime) -> Result<(), Fa
     Ok(())
 }
 
+// Each record is read as it was written, and so is each signal.
+fn read_again(control: &Control) -> Result<Control, CtlFault>
+    ensures { result ≡ Ok control.now }
+{
+    Control::read(&control.write())
+}
+
+fn signal_read_again(signal: &Signal) -> Option<Signal>
+    ensures { result ≡ Some signal.now }
+{
+    Signal::read(&signal.write())
+}
+
 #[test]
 fn a_full_record_is_read_as_it_was_written(rt: HostRuntime) -> Result<(), Fail> {
     let alt = Some(Alt {
@@ -54,7 +69,7 @@ fn a_full_record_is_read_as_it_was_written(rt: HostRuntime) -> Result<(), Fail> 
         3, 4,
     ];
     assert_eq!(rt; &bytes[4..36], tail.as_slice());
-    let read = Control::read(&bytes)?;
+    let read = read_again(&control)?;
     assert_eq!(rt; read.format(), 2);
     assert_eq!(rt; read.last(), 0x0102_0305);
     assert_eq!(rt; read.owner(), owner(7, Site::A));
@@ -116,7 +131,7 @@ fn a_signal_has_its_bytes(rt: HostRuntime) -> Result<(), Fail> {
     ];
     assert_eq!(rt; &bytes[..20], head.as_slice());
     assert!(rt; bytes[20..].iter().all(|b| *b == 0));
-    let read = Signal::read(&bytes).ok_or("a signal")?;
+    let read = signal_read_again(&signal).ok_or("a signal")?;
     assert_eq!(rt; read.inc, 1);
     assert_eq!(rt; read.counter, 1);
     assert_eq!(rt; read.cursor, 0);

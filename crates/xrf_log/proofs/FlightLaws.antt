@@ -11,16 +11,10 @@ use Rattle.xrf_base.specs.declared.items.UnitId.{UnitId}
 use Rattle.xrf_logrec.specs.declared.records.LogRec.{LogRec}
 use Rattle.xrf_logrec.specs.declared.records.LogRec.TheVariants.{Put, Commit, Backout}
 use Rattle.xrf_log.specs.declared.taken.Row.{Row}
-use Rattle.xrf_log.specs.Flight.{same_unit, ends, has_ended, put_units, flight, put_of, puts, open_puts, undo_rows}
-use Rattle.xrf_log.proofs.Lists.{both-left, both-right, filter-neither, length-filter-le}
-
--- a unit that is the same is that unit
-pub same_unit-true : (a b : UnitId) → same_unit a b ≡ true → a ≡ b
-same_unit-true a b h =
-    let of : ℕ → ℕ → UnitId = λ inc serial. record { inc = inc; serial = serial } in
-    let inc : a.inc ≡ b.inc = eqb-true a.inc b.inc (both-left (a.inc == b.inc) (a.serial == b.serial) h) in
-    let serial : a.serial ≡ b.serial = eqb-true a.serial b.serial (both-right (a.inc == b.inc) (a.serial == b.serial) h) in
-    ap (λ n. of n a.serial) inc ∙ ap (of b.inc) serial
+use Rattle.xrf_logrec.specs.LogRecords.{same_unit}
+use Rattle.xrf_log.specs.Flight.{ends, has_ended, put_units, flight, put_of, puts, open_puts, undo_rows}
+use Rattle.xrf_logrec.proofs.LogLaws.{same_unit-true}
+use Rattle.xrf_logrec.proofs.Lists.{filter-neither, length-filter-le}
 
 -- one that is found among those that pass passes itself
 found-passes : (p : UnitId → Bool) (unit : UnitId) (units : List UnitId) → list_any (λ u. same_unit u unit) (filter p units) ≡ true → p unit ≡ true

@@ -1,14 +1,12 @@
 -- What a list of log records leaves undone. The lists of records are newest first.
-use Rattle.std.specs.Prelude.{ℕ, Bool, true, false, not, ◌==◌, ◌&&◌, if◌then◌else◌, List, [], ◌∷◌, ◌++◌, filter, map}
+use Rattle.std.specs.Prelude.{ℕ, Bool, true, false, not, if◌then◌else◌, List, [], ◌∷◌, ◌++◌, filter, map}
 use Rattle.std.specs.List.{list_any}
 use Rattle.xrf_base.specs.declared.items.UnitId.{UnitId}
 use Rattle.xrf_logrec.specs.declared.records.LogRec.{LogRec}
 use Rattle.xrf_logrec.specs.declared.records.LogRec.TheVariants.{Put, Commit, Backout}
 use Rattle.xrf_logrec.specs.declared.records.Undo.{Undo}
+use Rattle.xrf_logrec.specs.LogRecords.{same_unit}
 use Rattle.xrf_log.specs.declared.taken.Row.{Row}
-
-abbrev pub same_unit : UnitId → UnitId → Bool
-same_unit a b = a.inc == b.inc && a.serial == b.serial
 
 -- a record ends a unit where it is its Commit or its Backout
 abbrev pub ends : UnitId → LogRec → Bool

@@ -1,6 +1,7 @@
 ghost use Rattle.std.specs.Prelude.{◌≡◌, ℕ, ◌+◌, ◌<◌, [], ◌∷◌, not, length, filter, reverse, slice_get, Some, IfOk, vec_len, vec_capacity};
 ghost use Rattle.std.specs.List.{list_any};
-ghost use Rattle.xrf_log.specs.Flight.{same_unit, ends, flight, put_of, open_puts, undo_rows};
+ghost use Rattle.xrf_logrec.specs.LogRecords.{same_unit};
+ghost use Rattle.xrf_log.specs.Flight.{ends, flight, put_of, open_puts, undo_rows};
 
 use std::alloc::{AllocError, Global};
 use std::marker::Model;

@@ -1,21 +1,29 @@
 -- What is spelled is read.
-use Rattle.std.proofs.Common.{◌≡◌, ℕ, ◌^◌, ◌<◌, ◌≤◌, Bool, true, ◌&&◌, nat_eq, nat_le, List, [], ◌∷◌, ◌++◌, length, take, drop, replicate, Option, Some, refl, sym, ◌∙◌, ap, arith}
+use Rattle.std.proofs.Common.{◌≡◌, ℕ, ◌^◌, ◌<◌, ◌≤◌, ◌==◌, Bool, true, ◌&&◌, nat_eq, nat_le, List, [], ◌∷◌, ◌++◌, length, take, drop, replicate, Option, Some, refl, sym, ◌∙◌, ap, arith}
 use Rattle.std.specs.Option.{option_and_then}
 use Rattle.std.specs.Cmp.Lexicographic.{pointwise, nat_list_eq_equiv}
-use Rattle.std.proofs.lemmas.Bool.{le-leb}
+use Rattle.std.proofs.lemmas.Bool.{le-leb, eqb-true}
 use Rattle.std.proofs.lemmas.List.{take_at}
 use Rattle.byteorder.specs.Endian.{big_number, big_bytes}
 use Rattle.byteorder.specs.Numbers.{big_number-reads_back}
 use Rattle.xrf_base.specs.declared.items.UnitId.{UnitId}
 use Rattle.xrf_logrec.specs.declared.records.LogRec.{LogRec}
 use Rattle.xrf_logrec.specs.declared.records.LogRec.TheVariants.{Put, Commit, Backout}
-use Rattle.xrf_logrec.specs.LogRecords.{IsUnit, IsImage, IsLogRecord, LogIs, head_of, spelling, is_unit_id, is_log_record, unit_in, before_image, fields_of, if_spelled, log_reading}
+use Rattle.xrf_logrec.proofs.Lists.{both-left, both-right}
+use Rattle.xrf_logrec.specs.LogRecords.{same_unit, IsUnit, IsImage, IsLogRecord, LogIs, head_of, spelling, is_unit_id, is_log_record, unit_in, before_image, fields_of, if_spelled, log_reading}
 
 -- two units with one incarnation and one serial are one
-same_unit : (a b : UnitId) → a.inc ≡ b.inc → a.serial ≡ b.serial → a ≡ b
-same_unit a b g h =
+unit-ext : (a b : UnitId) → a.inc ≡ b.inc → a.serial ≡ b.serial → a ≡ b
+unit-ext a b g h =
     let of : ℕ → ℕ → UnitId = λ inc serial. record { inc = inc; serial = serial } in
     ap (λ inc. of inc a.serial) g ∙ ap (of b.inc) h
+
+-- a unit that is the same is that unit
+pub same_unit-true : (a b : UnitId) → same_unit a b ≡ true → a ≡ b
+same_unit-true a b h =
+    unit-ext a b
+    (eqb-true a.inc b.inc (both-left (a.inc == b.inc) (a.serial == b.serial) h))
+    (eqb-true a.serial b.serial (both-right (a.inc == b.inc) (a.serial == b.serial) h))
 
 -- the place and the unit are read behind a head, whatever follows it
 place-head : (kind place : ℕ) (unit : UnitId) (rest : List ℕ) → place < 2 ^ 32 → big_number 4 (drop 1 (head_of kind place unit ++ rest)) ≡ place
@@ -23,7 +31,7 @@ place-head kind place unit rest fits = big_number-reads_back 4 place ((big_bytes
 
 unit-head : (kind place : ℕ) (unit : UnitId) (rest : List ℕ) → IsUnit unit → unit_in (head_of kind place unit ++ rest) ≡ unit
 unit-head kind place unit rest ok =
-    same_unit _ unit
+    unit-ext _ unit
     (big_number-reads_back 4 unit.inc (big_bytes 4 unit.serial ++ rest) ok.inc_most)
     (big_number-reads_back 4 unit.serial rest ok.serial_most)
 

@@ -13,6 +13,10 @@ unit_of (Put unit rrn before) = unit
 unit_of (Commit unit) = unit
 unit_of (Backout unit) = unit
 
+-- two units are one where their incarnations and their serials are
+abbrev pub same_unit : UnitId → UnitId → Bool
+same_unit a b = a.inc == b.inc && a.serial == b.serial
+
 -- the incarnation and the serial of a unit are numbers of 4 bytes, and at least 1
 pub record IsUnit (unit : UnitId) : Type 0 where
   pub inc_least : 1 ≤ unit.inc

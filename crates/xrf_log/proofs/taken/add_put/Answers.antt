@@ -1,8 +1,9 @@
 -- Each branch adds what the put adds to the units in flight and their puts.
 use Rattle.std.proofs.Common.{◌≡◌, Bool, true, false, not, List, ◌∷◌, ◌++◌, [], reverse, ap, sym, ◌∙◌}
 use Rattle.std.specs.List.{list_any}
-use Rattle.xrf_log.specs.Flight.{same_unit, ends, has_ended, flight, open_puts}
-use Rattle.xrf_log.proofs.Lists.{list_any-reverse, reverse-cons}
+use Rattle.xrf_logrec.specs.LogRecords.{same_unit}
+use Rattle.xrf_log.specs.Flight.{ends, has_ended, flight, open_puts}
+use Rattle.xrf_logrec.proofs.Lists.{list_any-reverse, reverse-cons}
 use Rattle.xrf_log.proofs.FlightLaws.{flight-put_again, flight-put_first, flight-put_ended, open_puts-put, open_puts-put_ended, in_flight-not_ended}
 use Rattle.xrf_log.proofs.taken.add_put.Goals as goal
 

@@ -3,8 +3,9 @@ use Rattle.std.proofs.Common.{arith, ap, sym, ◌∙◌, ◌≡◌, ◌≤◌, �
 use Rattle.std.proofs.lemmas.List.{length-reverse}
 use Rattle.xrf_base.specs.declared.items.UnitId.{UnitId}
 use Rattle.xrf_log.specs.declared.taken.Row.{Row}
-use Rattle.xrf_log.specs.Flight.{same_unit, flight, open_puts}
-use Rattle.xrf_log.proofs.Lists.{filter-reverse}
+use Rattle.xrf_logrec.specs.LogRecords.{same_unit}
+use Rattle.xrf_log.specs.Flight.{flight, open_puts}
+use Rattle.xrf_logrec.proofs.Lists.{filter-reverse}
 use Rattle.xrf_log.proofs.FlightLaws.{length-flight, length-open_puts, flight-commit, flight-backout, open_puts-commit, open_puts-backout}
 use Rattle.xrf_log.proofs.taken.add_record.Goals as goal
 

@@ -1,0 +1,11 @@
+use Rattle.std.proofs.Common.{◌≡◌, ◌==◌, ◌&&◌, not, sym, ◌∙◌}
+use Rattle.xrf_logrec.specs.LogRecords.{same_unit}
+use Rattle.xrf_logrec.proofs.Lists.{list_any-reverse}
+use Rattle.xrf_file.specs.declared.rows.LoggedPut.{LoggedPut}
+use Rattle.xrf_file.specs.Rows.{is_locked}
+use Rattle.xrf_file.proofs.rows.locks.Goals as goal
+
+pub returns : goal.returns
+returns c =
+    c.any_lock.ensures
+    ∙ sym (list_any-reverse (λ (put : LoggedPut). put.undo.rrn == c.args.rrn && not (same_unit put.unit c.args.unit)) c.args.puts.now)

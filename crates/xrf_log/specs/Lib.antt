@@ -1,0 +1,5 @@
+pub mod Flight
+pub mod Scan
+pub mod Taken
+pub mod Kept
+pub mod Scanning

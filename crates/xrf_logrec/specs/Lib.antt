@@ -1,0 +1,2 @@
+pub mod LogRecords
+pub mod Keypoints

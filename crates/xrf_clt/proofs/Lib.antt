@@ -1,0 +1,5 @@
+pub mod Joining
+pub mod Rows
+pub mod Faultless
+pub mod Whole
+pub mod Later

@@ -14,3 +14,6 @@ pub use limits::Limits;
 pub use names::Name8;
 pub use site::{Inc, Site, Takeovr, Tick};
 pub use values::Value;
+
+#[cfg(test)]
+mod tests;

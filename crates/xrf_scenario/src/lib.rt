@@ -19,3 +19,6 @@ pub use line::Line;
 pub use reason::{Fault, ReadBad, Reason};
 pub use scenario::{Numbered, Scenario};
 pub use text::read;
+
+#[cfg(test)]
+mod tests;

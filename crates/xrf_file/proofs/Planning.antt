@@ -1,5 +1,5 @@
 -- What a plan says of the ledger.
-use Rattle.std.proofs.Common.{◌≡◌, ℕ, ◌+◌, ◌-◌, ◌<◌, ◌≤◌, Bool, true, false, cond, List, Option, Some, None, nat_lt, refl, sym, ◌∙◌, ap, arith}
+use Rattle.std.proofs.Common.{◌≡◌, ℕ, ◌+◌, ◌-◌, ◌<◌, Bool, true, false, cond, List, Option, Some, None, refl, ◌∙◌, ap, arith}
 use Rattle.std.proofs.lemmas.Bool.{ltb-false}
 use Rattle.xrf_base.specs.declared.items.UnitId.{UnitId}
 use Rattle.xrf_base.specs.declared.items.Item.{Item}
@@ -8,7 +8,7 @@ use Rattle.xrf_base.specs.declared.items.ItemAnswer.TheVariants.{Done, BadRrn, L
 use Rattle.xrf_file.specs.declared.answers.Plan.{Plan}
 use Rattle.xrf_file.specs.declared.answers.Plan.TheVariants as plans
 use Rattle.xrf_file.specs.Rows.{unit_named, is_hot, is_locked, hot_with}
-use Rattle.xrf_file.specs.Ledger.{Ledger, plan_of, put_plan, get_plan, commit_plan, roll_plan, is_bad_rrn, is_log_full}
+use Rattle.xrf_file.specs.Ledger.{Ledger, plan_of, put_plan, get_plan, commit_plan, roll_plan, is_bad_rrn, is_log_full, after_end, closed, IsPending}
 
 -- the three tests of a put that is planned fail
 all-fail : (a b c : Bool) (x y z w : Plan) (unit : UnitId) (rrn : ℕ) (value : List ℕ) (place : ℕ)
@@ -59,3 +59,31 @@ plan-room l Shutdown unit rrn value place e = absurd (cc)
 plan-room l ShutdownTakeover unit rrn value place e = absurd (cc)
 plan-room l (Signon name user) unit rrn value place e = absurd (cc)
 plan-room l (Signoff name) unit rrn value place e = absurd (cc)
+
+-- a put that is planned waits
+pub put-pending : (l : Ledger) (name : List ℕ) (r : ℕ) (v : List ℕ) (found : Option UnitId) → unit_named name l.units ≡ found → IsPending l (put_plan l found r v)
+put-pending l name r v None e = tt
+put-pending l name r v (Some u) e = by (is_bad_rrn l r) (is_locked u r l.puts) (is_log_full l u) refl refl refl
+  where
+    by : (a b c : Bool) → is_bad_rrn l r ≡ a → is_locked u r l.puts ≡ b → is_log_full l u ≡ c
+        → IsPending l (cond a (plans.Answer BadRrn) (cond b (plans.Answer Locked) (cond c (plans.Answer LogFull) (plans.Put u r v l.next))))
+    by true b c x y z = tt
+    by false true c x y z = tt
+    by false false true x y z = tt
+    by false false false x y z = (refl, (Put name r v, ap (λ f. put_plan l f r v) e ∙ rw (x, y, z) refl))
+
+pub commit-pending : (l : Ledger) (name : List ℕ) (found : Option UnitId) → unit_named name l.units ≡ found → IsPending (after_end l found) (commit_plan l found)
+commit-pending l name None e = tt
+commit-pending l name (Some u) e = by (is_hot u l.puts) refl
+  where
+    by : (a : Bool) → is_hot u l.puts ≡ a → IsPending (cond a l (closed l u)) (cond a (plans.Commit u l.next) (plans.Answer Done))
+    by true x = (refl, (Commit name, ap (commit_plan l) e ∙ rw x refl))
+    by false x = tt
+
+pub roll-pending : (l : Ledger) (name : List ℕ) (found : Option UnitId) → unit_named name l.units ≡ found → IsPending (after_end l found) (roll_plan l found)
+roll-pending l name None e = tt
+roll-pending l name (Some u) e = by (is_hot u l.puts) refl
+  where
+    by : (a : Bool) → is_hot u l.puts ≡ a → IsPending (cond a l (closed l u)) (cond a (plans.Roll u l.next) (plans.Answer Done))
+    by true x = (refl, (Roll name, ap (roll_plan l) e ∙ rw x refl))
+    by false x = tt

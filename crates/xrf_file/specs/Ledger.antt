@@ -136,3 +136,12 @@ undo_rows unit l = undo_of unit l.puts
 -- this is what the job does for an item
 abbrev pub IsPlanned : Ledger → Plan → Type 0
 IsPlanned l plan = (item : Item) × (plan_of l item ≡ plan)
+
+-- A plan to log something waits: it is what the job does for an item still, and its record gets the
+-- number next.
+abbrev pub IsPending : Ledger → Plan → Type 0
+IsPending l (plans.Answer answer) = Unit {0}
+IsPending l (plans.Put unit rrn value place) = (place ≡ l.next) × IsPlanned l (plans.Put unit rrn value place)
+IsPending l (plans.Get rrn) = Unit {0}
+IsPending l (plans.Commit unit place) = (place ≡ l.next) × IsPlanned l (plans.Commit unit place)
+IsPending l (plans.Roll unit place) = (place ≡ l.next) × IsPlanned l (plans.Roll unit place)

@@ -13,9 +13,17 @@ pub enum Plan {
         place: u32,
     },
     /// The record's slot is read, and answers the item.
-    Get { rrn: u16 },
+    Get {
+        rrn: u16,
+    },
     /// The unit's commit is logged.
-    Commit { unit: UnitId, place: u32 },
+    Commit {
+        unit: UnitId,
+        place: u32,
+    },
     /// What the unit put is undone, newest first, and its backout is logged.
-    Roll { unit: UnitId, place: u32 },
+    Roll {
+        unit: UnitId,
+        place: u32,
+    },
 }

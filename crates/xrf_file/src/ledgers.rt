@@ -1,10 +1,14 @@
 ghost use Rattle.std.specs.Prelude.{◌≡◌, ◌≢◌, ℕ, List, ◌+◌, ◌-◌, ◌<◌, ◌≤◌, ◌⊎◌, length, Option, Some, IfOk, slice_get};
 ghost use Rattle.xrf_base.specs.Ranges.{AreLimits};
 ghost use Rattle.xrf_file.specs.Rows.{unit_named};
-ghost use Rattle.xrf_file.specs.Ledger.{Ledger, IsUnitItem, plan_of, begin_answer, put_plan, get_plan, commit_plan, roll_plan, is_bad_rrn, is_log_full, after_begin, after_end, planned, logged, ended, keyed, started, fresh, oldest, undo_rows, IsPlanned};
+ghost use Rattle.xrf_file.specs.Ledger.{Ledger, IsUnitItem, plan_of, begin_answer, put_plan, get_plan, commit_plan, roll_plan, is_bad_rrn, is_log_full, after_begin, after_end, planned, logged, ended, keyed, started, fresh, oldest, undo_rows, IsPlanned, IsPending};
+ghost use Rattle.xrf_file.specs.Steps.{AddsStep, Planned, Logged, Ended, Keyed};
 
 use crate::answers::Plan;
-use crate::rows::{count_hot, count_undo, find_unit, has_put, locks, nth_undo, remove_puts, remove_unit, LoggedPut, OpenUnit};
+use crate::rows::{
+    LoggedPut, OpenUnit, count_hot, count_undo, find_unit, has_put, locks, nth_undo, remove_puts,
+    remove_unit,
+};
 use std::alloc::{AllocError, Global};
 use std::marker::Model;
 use xrf_base::{Inc, Item, ItemAnswer, Limits, Name8, UnitId, Value};
@@ -84,6 +88,10 @@ impl Units {
         requires begun { self.old.begun < 65536 }
         ensures plan { result ≡ plan_of self.old item.now }
         ensures after { self.new ≡ planned self.old item.now }
+        ensures step { AddsStep self.old self.new (Planned item.now) }
+        ensures pending { IsPending self.new result }
+        ensures next { self.new.next ≡ self.old.next }
+        ensures begun { self.new.begun ≤ self.old.begun + 1 }
     {
         match item {
             Item::Begin(name) => Plan::Answer(self.begin(*name)),
@@ -147,7 +155,8 @@ impl Units {
         if self.is_bad(rrn) {
             return Plan::Answer(ItemAnswer::BadRrn);
         }
-        if locks(&self.puts, unit, rrn) {
+        let held = locks(&self.puts, unit, rrn);
+        if held {
             return Plan::Answer(ItemAnswer::Locked);
         }
         Plan::Get { rrn }
@@ -204,7 +213,8 @@ impl Units {
     pub fn put_logged(&mut self, unit: UnitId, rrn: u16, before: [u8; 32])
         requires planned { (value : List ℕ) × IsPlanned self.old (Plan.Put unit rrn value self.old.next) }
         requires next { self.old.next < 65535 }
-        ensures { self.new ≡ logged self.old unit rrn before }
+        ensures logged { self.new ≡ logged self.old unit rrn before }
+        ensures step { AddsStep self.old self.new (Logged unit rrn before) }
     {
         self.puts.push_reserved(LoggedPut {
             unit,
@@ -218,7 +228,8 @@ impl Units {
     pub fn ended(&mut self, unit: UnitId)
         requires planned { IsPlanned self.old (Plan.Commit unit self.old.next) ⊎ IsPlanned self.old (Plan.Roll unit self.old.next) }
         requires next { self.old.next < 65535 }
-        ensures { self.new ≡ ended self.old unit }
+        ensures ended { self.new ≡ ended self.old unit }
+        ensures step { AddsStep self.old self.new (Ended unit) }
     {
         remove_unit(&mut self.open_units, unit);
         remove_puts(&mut self.puts, unit);
@@ -227,7 +238,9 @@ impl Units {
 
     /// The number of the next log record.
     pub fn next(&self) -> u32
-        ensures { result ≡ self.now.next }
+        ensures next { result ≡ self.now.next }
+        ensures most { result < 65536 }
+        ensures order { self.now.start ≤ result }
     {
         self.next
     }
@@ -245,7 +258,8 @@ impl Units {
     /// A keypoint with this start is in force.
     pub fn keyed(&mut self, start: u32)
         requires { start ≡ oldest self.old }
-        ensures { self.new ≡ keyed self.old start }
+        ensures keyed { self.new ≡ keyed self.old start }
+        ensures step { AddsStep self.old self.new (Keyed start) }
     {
         self.start = start;
     }

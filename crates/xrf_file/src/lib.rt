@@ -5,6 +5,8 @@
 mod answers;
 mod ledgers;
 mod rows;
+#[cfg(test)]
+mod tests;
 
 pub use answers::Plan;
 pub use ledgers::Units;

@@ -47,7 +47,8 @@ fn any_put(puts: &[LoggedPut], unit: UnitId) -> bool
 fn any_lock(puts: &[LoggedPut], unit: UnitId, rrn: u16) -> bool
     ensures { result ≡ is_locked unit rrn puts.now }
 {
-    puts.iter().any(|put| put.undo.rrn == rrn && !is_same(put.unit, unit))
+    puts.iter()
+        .any(|put| put.undo.rrn == rrn && !is_same(put.unit, unit))
 }
 
 fn count_puts(puts: &[LoggedPut], unit: UnitId) -> usize
@@ -75,7 +76,10 @@ pub fn locks(puts: &[LoggedPut], unit: UnitId, rrn: u16) -> bool
 pub fn count_hot(units: &[OpenUnit], puts: &[LoggedPut], unit: UnitId) -> usize
     ensures { result ≡ hot_with unit units.now (reverse puts.now) }
 {
-    units.iter().filter(|open| is_same(open.unit, unit) || has_put(puts, open.unit)).count()
+    units
+        .iter()
+        .filter(|open| is_same(open.unit, unit) || has_put(puts, open.unit))
+        .count()
 }
 
 /// Takes a unit out of the open ones.

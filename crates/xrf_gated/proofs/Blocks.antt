@@ -3,7 +3,7 @@ use Rattle.std.proofs.Common.{◌≡◌, ℕ, zero, suc, ◌+◌, ◌-◌, ◌*�
 use Rattle.std.proofs.lemmas.List.{take_at, drop_at, drop-drop, get_or-append_right, get_or-take, get_or-drop, take_all, drop_all, append-nil}
 use Rattle.std.specs.List.{flat_map}
 use Rattle.xrf_gated.specs.declared.gated.Slot.{Slot}
-use Rattle.xrf_gated.specs.Slots.{slot_of, slot_in, bytes_of, block_of, zero_slot}
+use Rattle.xrf_gated.specs.Slots.{slot_of, slot_in, bytes_of, zero_slot}
 
 -- two slots with one gate and one body are one
 same_slot : (a b : Slot) → a.gate ≡ b.gate → a.body ≡ b.body → a ≡ b

@@ -1,7 +1,6 @@
 -- How the units in flight and their puts change with a record.
-use Rattle.std.proofs.Common.{◌≡◌, ℕ, ◌+◌, ◌-◌, ◌==◌, ◌≤◌, ◌<◌, Bool, true, false, not, ◌&&◌, ◌||◌, cond, List, [], ◌∷◌, ◌++◌, length, reverse, filter, map, get_or, Some, refl, sym, ◌∙◌, ap, subst, arith}
+use Rattle.std.proofs.Common.{◌≡◌, ℕ, ◌+◌, ◌-◌, ◌≤◌, ◌<◌, Bool, true, false, not, ◌||◌, cond, List, [], ◌∷◌, ◌++◌, length, reverse, filter, get_or, Some, refl, sym, ◌∙◌, ap, subst, arith}
 use Rattle.std.specs.List.{list_any}
-use Rattle.std.proofs.lemmas.Bool.{eqb-true}
 use Rattle.std.specs.Prelude.{slice_get}
 use Rattle.std.proofs.Math.ListN.{get_or-map}
 use Rattle.std.proofs.lemmas.Option.{slice_get-get_or}
@@ -12,7 +11,7 @@ use Rattle.xrf_logrec.specs.declared.records.LogRec.{LogRec}
 use Rattle.xrf_logrec.specs.declared.records.LogRec.TheVariants.{Put, Commit, Backout}
 use Rattle.xrf_log.specs.declared.taken.Row.{Row}
 use Rattle.xrf_logrec.specs.LogRecords.{same_unit}
-use Rattle.xrf_log.specs.Flight.{ends, has_ended, put_units, flight, put_of, puts, open_puts, undo_rows}
+use Rattle.xrf_log.specs.Flight.{has_ended, put_units, flight, put_of, puts, open_puts, undo_rows}
 use Rattle.xrf_logrec.proofs.LogLaws.{same_unit-true}
 use Rattle.xrf_logrec.proofs.Lists.{filter-neither, length-filter-le}
 

@@ -1,5 +1,5 @@
 -- Runs of records in consecutive slots.
-use Rattle.std.proofs.Common.{◌≡◌, ℕ, zero, suc, ◌+◌, ◌-◌, ◌<◌, ◌≤◌, List, ◌∷◌, length, Option, Some, None, refl, sym, ◌∙◌, ap, arith}
+use Rattle.std.proofs.Common.{◌≡◌, ℕ, suc, ◌+◌, ◌-◌, ◌<◌, List, ◌∷◌, Some, None, refl, sym, ◌∙◌, ap, arith}
 use Rattle.xrf_gated.specs.declared.gated.Slot.{Slot}
 use Rattle.xrf_logrec.specs.declared.records.LogRec.{LogRec}
 use Rattle.xrf_log.specs.Scan.{record_at, run_of}

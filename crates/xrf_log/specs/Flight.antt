@@ -1,5 +1,5 @@
 -- What a list of log records leaves undone. The lists of records are newest first.
-use Rattle.std.specs.Prelude.{ℕ, Bool, true, false, not, if◌then◌else◌, List, [], ◌∷◌, ◌++◌, filter, map}
+use Rattle.std.specs.Prelude.{Bool, false, not, if◌then◌else◌, List, [], ◌∷◌, ◌++◌, filter, map}
 use Rattle.std.specs.List.{list_any}
 use Rattle.xrf_base.specs.declared.items.UnitId.{UnitId}
 use Rattle.xrf_logrec.specs.declared.records.LogRec.{LogRec}

@@ -1,6 +1,5 @@
 -- What a scan keeps beside the records that it took.
-use Rattle.std.specs.Prelude.{◌≡◌, ℕ, List, reverse, vec_capacity}
-use Rattle.xrf_logrec.specs.declared.records.LogRec.{LogRec}
+use Rattle.std.specs.Prelude.{◌≡◌, reverse, vec_capacity}
 use Rattle.xrf_log.specs.declared.taken.Taken.TheInside.{Inside}
 use Rattle.xrf_log.specs.Taken.{Records}
 use Rattle.xrf_log.specs.Flight.{flight, open_puts}

@@ -1,7 +1,6 @@
 -- What a scan keeps.
-use Rattle.std.specs.Prelude.{◌≡◌, ℕ, ◌≤◌, ◌%◌, List, length}
+use Rattle.std.specs.Prelude.{◌≡◌, ◌≤◌, ◌%◌, length}
 use Rattle.xrf_log.specs.declared.restart.Scan.TheInside.{Inside}
-use Rattle.xrf_log.specs.Taken.{Records}
 use Rattle.xrf_log.specs.Scan.{Scanned}
 
 abbrev pub scanned_by : Inside → Scanned

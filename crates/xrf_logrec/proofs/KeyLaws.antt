@@ -1,11 +1,11 @@
 -- What is spelled is read.
-use Rattle.std.proofs.Common.{◌≡◌, ℕ, ◌^◌, ◌<◌, ◌≤◌, true, List, ◌++◌, drop, replicate, Some, refl, ◌∙◌, ap, arith}
+use Rattle.std.proofs.Common.{◌≡◌, ℕ, ◌^◌, ◌<◌, List, ◌++◌, replicate, Some, refl, ◌∙◌, ap, arith}
 use Rattle.std.specs.Cmp.Lexicographic.{nat_list_eq_equiv}
 use Rattle.std.proofs.lemmas.Bool.{le-leb}
-use Rattle.byteorder.specs.Endian.{big_number, big_bytes}
+use Rattle.byteorder.specs.Endian.{big_bytes}
 use Rattle.byteorder.specs.Numbers.{big_number-reads_back}
 use Rattle.xrf_logrec.specs.declared.keypoints.Keypoint.{Keypoint}
-use Rattle.xrf_logrec.specs.Keypoints.{IsKeypoint, KeyIs, is_keypoint, key_spelling, key_fields, if_key_spelled, key_reading}
+use Rattle.xrf_logrec.specs.Keypoints.{IsKeypoint, KeyIs, key_spelling, key_fields, if_key_spelled, key_reading}
 
 -- two keypoints with one number and one start are one
 same_keypoint : (a b : Keypoint) → a.number ≡ b.number → a.start ≡ b.start → a ≡ b

@@ -1,7 +1,7 @@
 -- What is spelled is read.
-use Rattle.std.proofs.Common.{◌≡◌, ℕ, ◌^◌, ◌<◌, ◌≤◌, ◌==◌, Bool, true, ◌&&◌, nat_eq, nat_le, List, [], ◌∷◌, ◌++◌, length, take, drop, replicate, Option, Some, refl, sym, ◌∙◌, ap, arith}
+use Rattle.std.proofs.Common.{◌≡◌, ℕ, ◌^◌, ◌<◌, ◌==◌, true, List, ◌++◌, drop, replicate, Some, refl, ◌∙◌, ap}
 use Rattle.std.specs.Option.{option_and_then}
-use Rattle.std.specs.Cmp.Lexicographic.{pointwise, nat_list_eq_equiv}
+use Rattle.std.specs.Cmp.Lexicographic.{nat_list_eq_equiv}
 use Rattle.std.proofs.lemmas.Bool.{le-leb, eqb-true}
 use Rattle.std.proofs.lemmas.List.{take_at}
 use Rattle.byteorder.specs.Endian.{big_number, big_bytes}
@@ -10,7 +10,7 @@ use Rattle.xrf_base.specs.declared.items.UnitId.{UnitId}
 use Rattle.xrf_logrec.specs.declared.records.LogRec.{LogRec}
 use Rattle.xrf_logrec.specs.declared.records.LogRec.TheVariants.{Put, Commit, Backout}
 use Rattle.xrf_logrec.proofs.Lists.{both-left, both-right}
-use Rattle.xrf_logrec.specs.LogRecords.{same_unit, IsUnit, IsImage, IsLogRecord, LogIs, head_of, spelling, is_unit_id, is_log_record, unit_in, before_image, fields_of, if_spelled, log_reading}
+use Rattle.xrf_logrec.specs.LogRecords.{same_unit, IsUnit, IsLogRecord, LogIs, head_of, spelling, is_unit_id, is_log_record, unit_in, before_image, fields_of, if_spelled, log_reading}
 
 -- two units with one incarnation and one serial are one
 unit-ext : (a b : UnitId) → a.inc ≡ b.inc → a.serial ≡ b.serial → a ≡ b

@@ -1,9 +1,7 @@
-use Rattle.std.proofs.Common.{◌≡◌, sym, ◌∙◌}
-use Rattle.std.specs.List.{list_any}
+use Rattle.std.proofs.Common.{sym, ◌∙◌}
 use Rattle.xrf_logrec.specs.LogRecords.{same_unit}
 use Rattle.xrf_logrec.proofs.Lists.{list_any-reverse}
 use Rattle.xrf_file.specs.declared.rows.LoggedPut.{LoggedPut}
-use Rattle.xrf_file.specs.Rows.{is_hot}
 use Rattle.xrf_file.proofs.rows.has_put.Goals as goal
 
 pub returns : goal.returns

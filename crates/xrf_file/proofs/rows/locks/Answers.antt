@@ -1,8 +1,7 @@
-use Rattle.std.proofs.Common.{◌≡◌, ◌==◌, ◌&&◌, not, sym, ◌∙◌}
+use Rattle.std.proofs.Common.{◌==◌, ◌&&◌, not, sym, ◌∙◌}
 use Rattle.xrf_logrec.specs.LogRecords.{same_unit}
 use Rattle.xrf_logrec.proofs.Lists.{list_any-reverse}
 use Rattle.xrf_file.specs.declared.rows.LoggedPut.{LoggedPut}
-use Rattle.xrf_file.specs.Rows.{is_locked}
 use Rattle.xrf_file.proofs.rows.locks.Goals as goal
 
 pub returns : goal.returns

@@ -1,5 +1,5 @@
 -- Each put is passed over or counted, and one is found before the puts end.
-use Rattle.std.proofs.Common.{◌≡◌, ◌-◌, ◌+◌, ◌≢◌, true, false, List, [], length, reverse, take, arith, ap, sym, ◌∙◌, get_or}
+use Rattle.std.proofs.Common.{◌≡◌, ◌-◌, ◌+◌, ◌≢◌, true, false, [], length, reverse, take, arith, ap, sym, ◌∙◌, get_or}
 use Rattle.std.specs.Prelude.{slice_get}
 use Rattle.xrf_logrec.specs.LogRecords.{same_unit}
 use Rattle.xrf_file.specs.declared.rows.LoggedPut.{LoggedPut}
@@ -16,15 +16,15 @@ unfolding no_put
 loop-i-preserved c =
     let wanted = slice_get (undo_of c.args.unit (reverse c.args.puts.now)) c.args.k in
     elim c.if-is_same.branch [
-      then-is_same+else-left-eq0 w ↦
-        let own : same_unit (get_or c.args.puts.now (length c.args.puts.now - 1 - c.loop-i.i) no_put).unit c.args.unit ≡ true = sym c.is_same.ensures ∙ w.if-is_same.true in
-        let more : c.loop-i.left ≢ 0 = omega (arith, w.if-left-eq0.false) in
-        ap (slice_get (undo_of c.args.unit (reverse (take (length c.args.puts.now - (c.loop-i.i + 1)) c.args.puts.now)))) w.left-is
-        ∙ walk-own c.args.unit c.args.puts.now c.loop-i.i c.loop-i.left no_put wanted c.loop-i-test.true more own c.loop-i.invariant
-    | else-is_same w ↦
-        let other : same_unit (get_or c.args.puts.now (length c.args.puts.now - 1 - c.loop-i.i) no_put).unit c.args.unit ≡ false = sym c.is_same.ensures ∙ w.if-is_same.false in
-        ap (slice_get (undo_of c.args.unit (reverse (take (length c.args.puts.now - (c.loop-i.i + 1)) c.args.puts.now)))) w.left-is
-        ∙ walk-other c.args.unit c.args.puts.now c.loop-i.i c.loop-i.left no_put wanted c.loop-i-test.true other c.loop-i.invariant
+      | then-is_same+else-left-eq0 w ↦
+          let own : same_unit (get_or c.args.puts.now (length c.args.puts.now - 1 - c.loop-i.i) no_put).unit c.args.unit ≡ true = sym c.is_same.ensures ∙ w.if-is_same.true in
+          let more : c.loop-i.left ≢ 0 = omega (arith, w.if-left-eq0.false) in
+          ap (slice_get (undo_of c.args.unit (reverse (take (length c.args.puts.now - (c.loop-i.i + 1)) c.args.puts.now)))) w.left-is
+          ∙ walk-own c.args.unit c.args.puts.now c.loop-i.i c.loop-i.left no_put wanted c.loop-i-test.true more own c.loop-i.invariant
+      | else-is_same w ↦
+          let other : same_unit (get_or c.args.puts.now (length c.args.puts.now - 1 - c.loop-i.i) no_put).unit c.args.unit ≡ false = sym c.is_same.ensures ∙ w.if-is_same.false in
+          ap (slice_get (undo_of c.args.unit (reverse (take (length c.args.puts.now - (c.loop-i.i + 1)) c.args.puts.now)))) w.left-is
+          ∙ walk-other c.args.unit c.args.puts.now c.loop-i.i c.loop-i.left no_put wanted c.loop-i-test.true other c.loop-i.invariant
     ]
 
 pub unreachable-requires : goal.unreachable-requires

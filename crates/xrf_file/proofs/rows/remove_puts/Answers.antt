@@ -1,4 +1,4 @@
-use Rattle.std.proofs.Common.{◌≡◌, not, reverse, filter, rules, ap, sym, ◌∙◌}
+use Rattle.std.proofs.Common.{◌≡◌, not, reverse, rules, ap, sym, ◌∙◌}
 use Rattle.std.proofs.lemmas.Fn.{filter_same}
 use Rattle.xrf_logrec.specs.LogRecords.{same_unit}
 use Rattle.xrf_logrec.proofs.Lists.{filter-reverse}

@@ -1,5 +1,5 @@
 -- Each branch adds what the put adds to the units in flight and their puts.
-use Rattle.std.proofs.Common.{◌≡◌, Bool, true, false, not, List, ◌∷◌, ◌++◌, [], reverse, ap, sym, ◌∙◌}
+use Rattle.std.proofs.Common.{◌≡◌, true, false, ◌∷◌, ◌++◌, [], reverse, ap, sym, ◌∙◌}
 use Rattle.std.specs.List.{list_any}
 use Rattle.xrf_logrec.specs.LogRecords.{same_unit}
 use Rattle.xrf_log.specs.Flight.{ends, has_ended, flight, open_puts}

@@ -1,8 +1,6 @@
 -- There is room for what a put adds, and a record that ends a unit takes out what the filter does.
-use Rattle.std.proofs.Common.{arith, ap, sym, ◌∙◌, ◌≡◌, ◌≤◌, ◌<◌, not, ◌∷◌, filter, reverse, length, vec_len}
+use Rattle.std.proofs.Common.{arith, ap, sym, ◌∙◌, not, ◌∷◌, filter, reverse, length}
 use Rattle.std.proofs.lemmas.List.{length-reverse}
-use Rattle.xrf_base.specs.declared.items.UnitId.{UnitId}
-use Rattle.xrf_log.specs.declared.taken.Row.{Row}
 use Rattle.xrf_logrec.specs.LogRecords.{same_unit}
 use Rattle.xrf_log.specs.Flight.{flight, open_puts}
 use Rattle.xrf_logrec.proofs.Lists.{filter-reverse}

@@ -1,5 +1,5 @@
 -- The puts that are left are numbered as before.
-use Rattle.std.proofs.Common.{◌≡◌, ◌≤◌, ◌+◌, ℕ, List, arith, ap, sym, subst, ◌∙◌, not, length, reverse}
+use Rattle.std.proofs.Common.{◌≤◌, ◌+◌, arith, ap, sym, subst, ◌∙◌, not, length, reverse}
 use Rattle.xrf_logrec.specs.LogRecords.{same_unit}
 use Rattle.xrf_logrec.proofs.Lists.{length-filter-le}
 use Rattle.xrf_file.specs.declared.rows.LoggedPut.{LoggedPut}
@@ -22,5 +22,5 @@ invariant_of-self c =
       put_room = c.remove_puts.ensures.capacity ∙ c.self.invariant.put_room;
       order = omega (arith, c.self.invariant.order);
       next_most = omega (arith, c.requires.next, ap (λ l. l.next) c.self.view_is);
-      numbered = AreNumbered-weaken start next (next + 1) _ more (subst (AreNumbered start next) (sym c.remove_puts.ensures.items) left)
+      numbered = AreNumbered-weaken start next (next + 1) _ more (subst (AreNumbered start next) (sym c.remove_puts.ensures.items) left);
     }

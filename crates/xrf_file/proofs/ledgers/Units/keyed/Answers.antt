@@ -17,5 +17,5 @@ invariant_of-self c =
       put_room = c.self.invariant.put_room;
       order = omega (arith, least, least_number-le next puts);
       next_most = c.self.invariant.next_most;
-      numbered = subst (λ (s : ℕ). AreNumbered s next puts) (sym least) (AreNumbered-least c.self.inside.start next puts c.self.invariant.numbered)
+      numbered = subst (λ (s : ℕ). AreNumbered s next puts) (sym least) (AreNumbered-least c.self.inside.start next puts c.self.invariant.numbered);
     }

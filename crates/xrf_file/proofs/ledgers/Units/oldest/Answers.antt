@@ -1,5 +1,5 @@
 -- The first put is the oldest.
-use Rattle.std.proofs.Common.{◌≡◌, Some, List, ap, sym, subst, ◌∙◌}
+use Rattle.std.proofs.Common.{◌≡◌, Some, List, ap, sym, ◌∙◌}
 use Rattle.std.specs.Prelude.{slice_get}
 use Rattle.xrf_file.specs.declared.rows.LoggedPut.{LoggedPut}
 use Rattle.xrf_file.specs.Ledger.{oldest}

@@ -1,5 +1,5 @@
 -- A put is planned only where there is room for its record.
-use Rattle.std.proofs.Common.{◌<◌, ◌-◌, ◌+◌, ◌≤◌, arith, ap, subst, sym, reverse, length, length-append}
+use Rattle.std.proofs.Common.{◌<◌, ◌-◌, arith, subst, sym, reverse}
 use Rattle.std.proofs.lemmas.List.{length-reverse}
 use Rattle.xrf_file.specs.Ledger.{Ledger}
 use Rattle.xrf_file.proofs.Numbering.{AreNumbered-length}

@@ -1,5 +1,5 @@
 -- The loop's bytes are those of the block, slot by slot.
-use Rattle.std.proofs.Common.{arith, ap, sym, ◌∙◌, ◌+◌, ◌-◌, ◌*◌, ◌≡◌, ◌≤◌, length}
+use Rattle.std.proofs.Common.{arith, ap, ◌∙◌, ◌+◌, ◌-◌, ◌*◌, ◌≡◌, ◌≤◌, length}
 use Rattle.xrf_gated.specs.Slots.{slot_of}
 use Rattle.xrf_gated.proofs.Blocks.{slots_read}
 use Rattle.xrf_gated.proofs.gated.Slots.block.Goals as goal

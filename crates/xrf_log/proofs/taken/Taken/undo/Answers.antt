@@ -1,5 +1,5 @@
 -- Row k from the end is row k of the puts, newest first.
-use Rattle.std.proofs.Common.{arith, ap, sym, subst, ◌∙◌, ◌≡◌, ◌<◌, ◌-◌, ℕ, List, length, reverse, vec_len, get_or}
+use Rattle.std.proofs.Common.{arith, ap, sym, subst, ◌∙◌, ◌≡◌, ◌<◌, ◌-◌, ℕ, List, length, reverse, get_or}
 use Rattle.std.specs.Prelude.{slice_get}
 use Rattle.xrf_logrec.specs.declared.records.LogRec.{LogRec}
 use Rattle.xrf_log.specs.Taken.{Records}

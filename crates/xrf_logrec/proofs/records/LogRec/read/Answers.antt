@@ -1,7 +1,5 @@
 -- What is read is the reading of the body, and what is spelled is read.
-use Rattle.std.proofs.Common.{◌≡◌, Option, Some, None, ◌∙◌, ℕ, arith, rules}
-use Rattle.std.proofs.lemmas.Grind.{common_steps}
-use Rattle.xrf_logrec.specs.declared.records.LogRec.{LogRec}
+use Rattle.std.proofs.Common.{◌≡◌, Some, None, ◌∙◌, rules}
 use Rattle.xrf_logrec.specs.LogRecords.{log_reading}
 use Rattle.xrf_logrec.proofs.LogLaws.{log_reading-spelled}
 use Rattle.xrf_logrec.proofs.records.LogRec.read.Goals as goal

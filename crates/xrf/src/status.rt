@@ -20,8 +20,12 @@ pub enum Status {
 }
 
 impl Status {
+    ghost use Rattle.xrf.specs.Status.{code_of};
+
     /// The number with which the process ends.
-    pub fn code(self) -> u8 {
+    pub fn code(self) -> u8
+        ensures { result ≡ code_of self }
+    {
         match self {
             Status::Done => 0,
             Status::Refused => 8,

@@ -11,10 +11,6 @@ pub record Scen : Type 0 where
   pub records : List (Option (List ℕ))
   pub work : List Item
 
--- the record of a number, where there is one
-abbrev pub record_at : Scen → ℕ → Option (List ℕ)
-record_at s number = get_or s.records number None
-
 -- FILE is 1 to 256, records have numbers up to FILE, and the work is that of one unit,
 -- with at most 60 PUTs
 pub record IsScen (s : Scen) : Type 0 where

@@ -1,0 +1,4 @@
+pub mod Joining
+pub mod Fields
+pub mod MessageLaws
+pub mod GivenLaws

@@ -74,3 +74,16 @@ abbrev pub WritesMade : End → End → Made → Status → Type 0
 WritesMade sink sink' (Document text) status = Said sink sink' text.items Done status
 WritesMade sink sink' (Refusal number reason) status = Refusing sink sink' number reason status
 WritesMade sink sink' Nothing status = (status ≡ NoMemory) × (sink' ≡ sink)
+
+-- Of an input there is one document or one refusal, never both.
+abbrev pub OneText : Type 0
+OneText = (bytes text text' : List ℕ) → IsDocument bytes text → IsDocument bytes text' → text ≡ text'
+
+abbrev pub NeverRefused : Type 0
+NeverRefused = (bytes text : List ℕ) (number : ℕ) (reason : Reason) → IsDocument bytes text → IsRefusal bytes number reason → ⊥
+
+-- An input that has a document, read and written without a fault, is answered Done, or for want of memory.
+abbrev pub Complete : List (String Global) → End → End → End → End → Status → Type 0
+Complete words source source' sink sink' status =
+    (bytes text : List ℕ) → is_replay words ≡ true → source.bytes ≡ Some bytes → IsDocument bytes text
+    → ¬ HasRisen source.faults source'.faults → ¬ HasRisen sink.faults sink'.faults → (status ≡ Done) ⊎ (status ≡ NoMemory)

@@ -3,7 +3,7 @@
 ghost use Rattle.std.specs.Prelude.{◌≡◌, ◌≤◌, false, true, nat_eq, string_bytes, codes};
 ghost use Rattle.std.specs.Cmp.Lexicographic.{pointwise};
 ghost use Rattle.xrf.specs.Words.{is_replay, usage_line};
-ghost use Rattle.xrf.specs.Answer.{End, Answered, Said, Refusing, WritesMade, Replayed};
+ghost use Rattle.xrf.specs.Answer.{End, Answered, Said, Refusing, WritesMade, Replayed, Complete, OneText, NeverRefused};
 
 use crate::made::{Made, made_of};
 use crate::refusal::{Reason, refusal_text};
@@ -70,12 +70,7 @@ fn replay<S: Source, K: Sink>(alloc: Global, source: &mut S, sink: &mut K) -> St
     }
 }
 
-/// Answers the words that the program is called with. `replay` reads the source to its end, runs
-/// the scenario that it spells, and writes the document to the sink, or the line and the reason of
-/// its refusal. Other words are answered by the usage, and the source is left as it was. A fault of
-/// the source or the sink is answered only where its count of faults has risen, and want of memory
-/// only before anything is written.
-pub fn batch<S: Source, K: Sink>(
+fn answer<S: Source, K: Sink>(
     alloc: Global,
     words: &[String],
     source: &mut S,
@@ -89,3 +84,27 @@ pub fn batch<S: Source, K: Sink>(
         say(sink, USAGE, Status::Usage)
     }
 }
+
+/// Answers the words that the program is called with. `replay` reads the source to its end, runs
+/// the scenario that it spells, and writes the document to the sink, or the line and the reason of
+/// its refusal. Other words are answered by the usage, and the source is left as it was. A fault of
+/// the source or the sink is answered only where its count of faults has risen, and want of memory
+/// only before anything is written.
+pub fn batch<S: Source, K: Sink>(
+    alloc: Global,
+    words: &[String],
+    source: &mut S,
+    sink: &mut K,
+) -> Status
+    ensures answered { Answered words.now (record { bytes = S.left source.old; faults = S.faults source.old }) (record { bytes = S.left source.new; faults = S.faults source.new }) (record { bytes = K.held sink.old; faults = K.faults sink.old }) (record { bytes = K.held sink.new; faults = K.faults sink.new }) result }
+    ensures complete { Complete words.now (record { bytes = S.left source.old; faults = S.faults source.old }) (record { bytes = S.left source.new; faults = S.faults source.new }) (record { bytes = K.held sink.old; faults = K.faults sink.old }) (record { bytes = K.held sink.new; faults = K.faults sink.new }) result }
+{
+    answer(alloc, words, source, sink)
+}
+
+/// Of an input there is one document or one refusal, never both: so Done and Refused come exactly
+/// where the input has the one or the other, but for faults of the ends and want of memory.
+pub fn one_answer()
+    ensures text { OneText }
+    ensures refusal { NeverRefused }
+{}

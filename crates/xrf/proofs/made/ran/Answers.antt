@@ -1,9 +1,8 @@
-use Rattle.std.proofs.Common.{◌≡◌, ◌≤◌, ◌<◌, Ok, Err, length, List, ℕ, ap, sym, ◌∙◌, arith}
+use Rattle.std.proofs.Common.{◌≡◌, length, ap, sym, ◌∙◌, arith}
 use Rattle.std.proofs.lemmas.List.{length-map}
 use Rattle.xrf.specs.Refusals.{plain}
 use Rattle.xrf_world.specs.Runs.{run, Run}
 use Rattle.xrf_report.specs.Document.{doc}
-use Rattle.xrf_scenario.specs.declared.choice.Choice.{Choice}
 use Rattle.xrf_scenario.specs.declared.scenario.Numbered.{Numbered}
 use Rattle.xrf.proofs.made.ran.Goals as goal
 

@@ -1,4 +1,4 @@
-use Rattle.std.proofs.Common.{◌<◌, ℕ, List, Option, Some, Err, ap, subst, IfSome}
+use Rattle.std.proofs.Common.{◌<◌, ℕ, List, Err, ap, subst}
 use Rattle.xrf_edge.specs.Ends.{came}
 use Rattle.xrf.specs.Made.{IsMade}
 use Rattle.xrf.specs.Answer.{End}

@@ -1,0 +1,57 @@
+-- One document or one refusal.
+use Rattle.std.proofs.Common.{String, ◌≡◌, ◌⊎◌, inl, inr, ◌≤◌, ◌<◌, ℕ, Bool, true, List, length, Option, Some, None, IfSome, MatchBool, Result, Ok, Err, refl, sym, ◌∙◌, ap, subst, arith}
+use Rattle.std.specs.Global.{Global}
+use Rattle.xrf_edge.specs.Faults.{HasRisen}
+use Rattle.xrf_scenario.specs.Scenario.{Scen}
+use Rattle.xrf_scenario.specs.declared.choice.Choice.{Choice}
+use Rattle.xrf_scenario.specs.declared.scenario.Numbered.{Numbered}
+use Rattle.xrf_scenario.proofs.TextLaws.{one_reading, never_both}
+use Rattle.xrf_world.specs.declared.entry.Entry.{Entry}
+use Rattle.xrf_world.specs.Runs.{run, Refusal}
+use Rattle.xrf_report.specs.Document.{doc}
+use Rattle.xrf.specs.Words.{is_replay}
+use Rattle.xrf.specs.Refusals.{plain, most, IsRefusal, Stops}
+use Rattle.xrf.specs.Made.{IsDocument}
+use Rattle.xrf.specs.Answer.{End, Replayed, ToldUsage, Answered, Complete, OneText, NeverRefused}
+use Rattle.xrf.specs.declared.refusal.Reason.{Reason}
+use Rattle.xrf.specs.declared.refusal.Reason.TheVariants.{TooLarge, Grammar, Choosing}
+use Rattle.xrf.specs.declared.status.Status.{Status}
+use Rattle.xrf.specs.declared.status.Status.TheVariants.{Done, Refused, Usage, ReadFault, WriteFault, NoMemory}
+
+-- two readings of a text run alike
+same_run : (s s' : Scen) (cs cs' : List Numbered) → s ≡ s' → cs ≡ cs' → run s (plain cs) ≡ run s' (plain cs')
+same_run s s' cs cs' is are = ap (λ (t : Scen). run t (plain cs)) is ∙ ap (λ (l : List Numbered). run s' (plain l)) are
+
+pub one_text : OneText
+one_text bytes text text' d d' =
+    let same = one_reading bytes d.scenario d'.scenario d.choices d'.choices d.reads d'.reads in
+    d.document ∙ ap (λ (t : Scen). doc t (plain d.choices)) same.0 ∙ ap (λ (l : List Numbered). doc d'.scenario (plain l)) same.1 ∙ sym d'.document
+
+pub never_refused : NeverRefused
+never_refused bytes text number TooLarge d r = omega (arith, d.size, r.0)
+never_refused bytes text number (Grammar reason) d r = never_both bytes d.scenario d.choices number reason d.reads r.1
+never_refused bytes text number (Choosing reason) d r =
+    let same = one_reading bytes d.scenario r.1.scenario d.choices r.1.choices d.reads r.1.reads in
+    let clash = sym d.is_run ∙ same_run d.scenario r.1.scenario d.choices r.1.choices same.0 same.1 ∙ r.1.stopped in
+    cc
+
+-- where a value is there, what holds of it if it is there holds
+pub there : {A : Type 0} (P : A → Type 0) (o : Option A) (x : A) → o ≡ Some x → IfSome o P → P x
+there {A = A} P o x is h = let at : IfSome (Some x) P = subst (λ (p : Option A). IfSome p P) is h in at
+
+-- the answer to `replay` of an input that has a document, without a fault
+replay_complete : (source source' sink sink' : End) (status : Status) (bytes text : List ℕ) → source.bytes ≡ Some bytes → IsDocument bytes text
+    → ¬ HasRisen source.faults source'.faults → ¬ HasRisen sink.faults sink'.faults → Replayed source source' sink sink' status → (status ≡ Done) ⊎ (status ≡ NoMemory)
+replay_complete source source' sink sink' Done bytes text is d quiet quiet' answer = inl refl
+replay_complete source source' sink sink' Refused bytes text is d quiet quiet' answer =
+    let refuses = there _ source.bytes bytes is answer in absurd (never_refused bytes text refuses.number refuses.reason d refuses.is)
+replay_complete source source' sink sink' Usage bytes text is d quiet quiet' answer = absurd answer
+replay_complete source source' sink sink' ReadFault bytes text is d quiet quiet' answer = absurd (quiet answer.0)
+replay_complete source source' sink sink' WriteFault bytes text is d quiet quiet' answer = absurd (quiet' answer.cause)
+replay_complete source source' sink sink' NoMemory bytes text is d quiet quiet' answer = inr refl
+
+pub complete : (words : List (String Global)) (source source' sink sink' : End) (status : Status) → Answered words source source' sink sink' status → Complete words source source' sink sink' status
+complete words source source' sink sink' status answered bytes text asked is d quiet quiet' =
+    let replayed : Replayed source source' sink sink' status =
+    subst (λ (b : Bool). MatchBool b (Replayed source source' sink sink' status) (ToldUsage source source' sink sink' status)) asked answered in
+    replay_complete source source' sink sink' status bytes text is d quiet quiet' replayed

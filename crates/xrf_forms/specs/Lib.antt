@@ -1,0 +1,10 @@
+pub mod Reasons
+pub mod Keywords
+pub mod Table
+pub mod Places
+pub mod Numbers
+pub mod Hex
+pub mod Operands
+pub mod Fitting
+pub mod Saying
+pub mod Reading

@@ -1,0 +1,23 @@
+//! The forms of the lines of a scenario, as a table, and how a line is read by it.
+#![tactic(auto)]
+
+pub mod choice;
+mod fitting;
+pub mod form;
+pub mod keyword;
+pub mod line;
+mod number;
+mod operand;
+pub mod reading;
+pub mod reason;
+mod saying;
+pub mod torn;
+mod word;
+
+pub use choice::{Choice, Landing};
+pub use form::{Form, Format};
+pub use keyword::Keyword;
+pub use line::Line;
+pub use reading::read_line;
+pub use reason::Reason;
+pub use torn::TornBytes;

@@ -1,11 +1,15 @@
 -- Bytes in hex.
-use Rattle.std.specs.Prelude.{ℕ, Bool, ◌+◌, ◌*◌, ◌-◌, ◌%◌, ◌==◌, ◌&&◌, nat_le, nat_lt, List, [], ◌∷◌, length, replicate, slice_set, Option, Some, None, if◌then◌else◌}
+use Rattle.std.specs.Prelude.{ℕ, Bool, ◌+◌, ◌*◌, ◌-◌, ◌%◌, ◌==◌, ◌&&◌, nat_le, nat_lt, List, [], ◌∷◌, length, replicate, take, slice_set, Option, Some, None, if◌then◌else◌}
 use Rattle.std.specs.Char.{is_ascii_hexdigit}
 use Rattle.std.specs.List.{list_all}
 use Rattle.xrf_forms.specs.declared.torn.TornBytes.{TornBytes}
 
 abbrev pub is_hex_digit : ℕ → Bool
 is_hex_digit b = is_ascii_hexdigit b
+
+-- the bytes that it holds
+abbrev pub torn_bytes : TornBytes → List ℕ
+torn_bytes torn = if nat_le 63 torn.count then torn.bytes else take torn.count torn.bytes
 
 -- an even number of hex digits, of either case, for 1 to 63 bytes
 abbrev pub is_hex : List ℕ → Bool

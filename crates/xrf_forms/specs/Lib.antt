@@ -8,3 +8,4 @@ pub mod Operands
 pub mod Fitting
 pub mod Saying
 pub mod Reading
+pub mod Grammar

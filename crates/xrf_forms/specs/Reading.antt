@@ -1,5 +1,5 @@
 -- What a line says by the forms of its part of the text, or the first reason for which it is none.
-use Rattle.std.specs.Prelude.{ℕ, List, [], ◌∷◌, codes, Option, Some, None, Result, Ok, Err, if◌then◌else◌}
+use Rattle.std.specs.Prelude.{ℕ, Bool, true, false, not, List, [], ◌∷◌, codes, Option, Some, None, Result, Ok, Err, if◌then◌else◌}
 use Rattle.std.specs.Option.{ok_or}
 use Rattle.std.specs.Str.{bytes_eq}
 use Rattle.xrf_forms.specs.declared.reason.Reason.{Reason}
@@ -9,6 +9,9 @@ use Rattle.xrf_forms.specs.declared.line.Line.{Line}
 use Rattle.xrf_forms.specs.Table.{parts_of}
 use Rattle.xrf_forms.specs.Fitting.{form_for, first_fault}
 use Rattle.xrf_forms.specs.Saying.{said}
+use Rattle.xrf_forms.specs.Places.{first, second}
+use Rattle.xrf_forms.specs.declared.form.Format.{Format}
+use Rattle.xrf_forms.specs.declared.form.Format.TheVariants.{One, Two}
 
 -- the reason where there is one, else what the words say
 abbrev pub unless_fault : Option Reason → Option Line → Result Line Reason
@@ -24,3 +27,18 @@ by_form (Err reason) ws = Err reason
 
 abbrev pub line_of : List Form → List (List ℕ) → Result Line Reason
 line_of forms ws = by_form (form_for forms ws) ws
+
+abbrev pub are_two : List (List ℕ) → Bool
+are_two [] = false
+are_two (first ∷ []) = false
+are_two (first ∷ second ∷ []) = true
+are_two (first ∷ second ∷ third ∷ more) = false
+
+-- The header is `XRF 1` or `XRF 2`.
+abbrev pub header_of : List (List ℕ) → Result Format Reason
+header_of ws =
+    if not (bytes_eq (first ws) (codes "XRF")) then Err NoHeader
+    else if not (are_two ws) then Err BadFormat
+    else if bytes_eq (second ws) (codes "1") then Ok One
+    else if bytes_eq (second ws) (codes "2") then Ok Two
+    else Err BadFormat

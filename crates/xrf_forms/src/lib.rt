@@ -11,6 +11,7 @@ mod operand;
 pub mod reading;
 pub mod reason;
 mod saying;
+pub mod table;
 pub mod torn;
 mod word;
 
@@ -18,6 +19,10 @@ pub use choice::{Choice, Landing};
 pub use form::{Form, Format};
 pub use keyword::Keyword;
 pub use line::Line;
-pub use reading::read_line;
+pub use reading::{read_header, read_line};
 pub use reason::Reason;
+pub use table::{choices, settings};
 pub use torn::TornBytes;
+
+#[cfg(test)]
+mod tests;

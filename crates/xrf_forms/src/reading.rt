@@ -1,14 +1,17 @@
 //! How a line is read by the table of forms.
 
-ghost use Rattle.std.specs.Prelude.{◌≡◌};
+ghost use Rattle.std.specs.Prelude.{◌≡◌, IfOk};
+ghost use Rattle.xrf_forms.specs.Grammar.{Spells};
 ghost use Rattle.xrf_text.specs.Text.{words};
-ghost use Rattle.xrf_forms.specs.Reading.{line_of_form, line_of};
+ghost use Rattle.xrf_forms.specs.Reading.{line_of_form, line_of, are_two, header_of};
 
 use crate::fitting::{choose_form, find_fault};
-use crate::form::Form;
+use crate::form::{Form, Format};
 use crate::line::Line;
 use crate::reason::Reason;
 use crate::saying::say;
+use crate::word::{first_word, second_word};
+use xrf_text::split_word;
 
 fn read_form(form: Form, line: &[u8]) -> Result<Line, Reason>
     ensures { result ≡ line_of_form form (words line.now) }
@@ -24,11 +27,51 @@ fn read_form(form: Form, line: &[u8]) -> Result<Line, Reason>
 
 /// What a line says by the forms of its part of the text, or the first reason for which it is none
 /// of them. The line has no byte outside blank to `~`.
+#[tactic(auto, using(crate::proofs::FormLaws::found_by_reading))]
 pub fn read_line(forms: &[Form], line: &[u8]) -> Result<Line, Reason>
+    ensures found { IfOk result (λ says. Spells forms.now (words line.now) says) }
+    ensures exact { result ≡ line_of forms.now (words line.now) }
+{
+    read_by_form(forms, line)
+}
+
+fn read_by_form(forms: &[Form], line: &[u8]) -> Result<Line, Reason>
     ensures { result ≡ line_of forms.now (words line.now) }
 {
     match choose_form(forms, line) {
         Ok(form) => read_form(form, line),
         Err(reason) => Err(reason),
     }
+}
+
+/// The format that the header names. The first line of a text is no header where its first word is
+/// not XRF.
+pub fn read_header(line: &[u8]) -> Result<Format, Reason>
+    ensures { result ≡ header_of (words line.now) }
+{
+    if first_word(line) != b"XRF".as_slice() {
+        return Err(Reason::NoHeader);
+    }
+    if !has_two_words(line) {
+        return Err(Reason::BadFormat);
+    }
+    if second_word(line) == b"1".as_slice() {
+        return Ok(Format::One);
+    }
+    if second_word(line) == b"2".as_slice() {
+        return Ok(Format::Two);
+    }
+    Err(Reason::BadFormat)
+}
+
+fn has_two_words(line: &[u8]) -> bool
+    ensures { result ≡ are_two (words line.now) }
+{
+    let Some((_, rest)) = split_word(line) else {
+        return false;
+    };
+    let Some((_, more)) = split_word(rest) else {
+        return false;
+    };
+    split_word(more).is_none()
 }

@@ -10,9 +10,7 @@ use crate::line::Line;
 use crate::number::read_number;
 use crate::operand::{read_class, read_site};
 use crate::torn::TornBytes;
-use crate::word::{
-    behind_first, fifth_word, fourth_word, second_word, sixth_word, third_word,
-};
+use crate::word::{behind_first, fifth_word, fourth_word, second_word, sixth_word, third_word};
 use xrf_base::{Inc, Item, Name8, Site, Value};
 
 fn torn(line: &[u8]) -> Option<Landing>

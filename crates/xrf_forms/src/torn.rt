@@ -2,7 +2,7 @@
 
 ghost use Rattle.std.specs.Prelude.{◌≡◌, ◌≤◌, length, true};
 ghost use Rattle.std.specs.List.{list_all};
-ghost use Rattle.xrf_forms.specs.Hex.{is_hex, is_hex_digit, digit_value, byte_of, one_more, filled, torn_of};
+ghost use Rattle.xrf_forms.specs.Hex.{is_hex, is_hex_digit, digit_value, byte_of, one_more, filled, torn_of, torn_bytes};
 
 /// 1 to 63 bytes.
 #[derive(Clone, Copy)]
@@ -104,5 +104,15 @@ impl TornBytes {
             },
             text,
         ))
+    }
+
+    /// The bytes, at most 63.
+    pub fn bytes(&self) -> &[u8]
+        ensures { result.now ≡ torn_bytes self.now }
+    {
+        if self.count >= 63 {
+            return &self.bytes;
+        }
+        &self.bytes[..self.count as usize]
     }
 }

@@ -1,25 +1,22 @@
 -- A line that is read is spelled by its words.
-use Rattle.std.proofs.Common.{◌≡◌, ◌⊎◌, inl, inr, ◌≤◌, ◌==◌, ◌&&◌, ℕ, Bool, true, false, if◌then◌else◌, nat_lt, nat_le, List, [], ◌∷◌, Option, Some, None, Result, Ok, Err, IfOk, refl, sym, ◌∙◌, ap, subst, arith, IsTrue}
-use Rattle.std.specs.Option.{is_some, ok_or}
+use Rattle.std.proofs.Common.{◌≡◌, ◌⊎◌, inl, inr, ◌==◌, ◌&&◌, ℕ, Bool, true, false, if◌then◌else◌, nat_lt, nat_le, List, [], ◌∷◌, Option, Some, None, Result, Ok, Err, IfOk, refl, sym, subst}
+use Rattle.std.specs.Option.{ok_or}
 use Rattle.std.specs.Str.{bytes_eq}
 use Rattle.std.proofs.lemmas.Slice.Eq.{bytes_eq-Decides}
 use Rattle.std.proofs.lemmas.Bool.{leb-true}
 use Rattle.xrf_base.proofs.Texts.{both-left, both-right}
-use Rattle.xrf_base.specs.Names.{is_name}
-use Rattle.xrf_base.specs.Values.{is_value}
 use Rattle.xrf_forms.specs.declared.reason.Reason.{Reason}
 use Rattle.xrf_forms.specs.declared.reason.Reason.TheVariants.{UnknownWord, WordCount, OutOfRange}
 use Rattle.xrf_forms.specs.declared.form.Part.{Part}
 use Rattle.xrf_forms.specs.declared.form.Part.TheVariants.{Keyword, Refused, Site, Number, Multiple, Name, Value, Hex, Words}
 use Rattle.xrf_forms.specs.declared.form.Form.{Form}
 use Rattle.xrf_forms.specs.declared.line.Line.{Line}
-use Rattle.xrf_forms.specs.Fitting.{takes_all, takes, most_agreed, agreed, fits_best, fitting, form_for, wrong, before_wrong, first_fault}
-use Rattle.xrf_forms.specs.Grammar.{IsNumber, IsOfPart, Unless, AreOfForm, IsAmong, Spells}
-use Rattle.xrf_forms.specs.Hex.{is_hex}
+use Rattle.xrf_forms.specs.Fitting.{takes_all, takes, most_agreed, fits_best, fitting, form_for, wrong, before_wrong, first_fault}
+use Rattle.xrf_forms.specs.Grammar.{IsOfPart, Unless, AreOfForm, IsAmong, Spells}
 use Rattle.xrf_forms.specs.Keywords.{keyword_text}
 use Rattle.xrf_forms.specs.Numbers.{number_of}
-use Rattle.xrf_forms.specs.Operands.{site_of, is_multiple_of, fault_unless, number_fault, operand_fault}
-use Rattle.xrf_forms.specs.Reading.{unless_fault, line_of_form, by_form, line_of}
+use Rattle.xrf_forms.specs.Operands.{is_multiple_of, fault_unless, number_fault, operand_fault}
+use Rattle.xrf_forms.specs.Reading.{unless_fault, by_form, line_of}
 use Rattle.xrf_forms.specs.Reasons.{earlier, rank}
 use Rattle.xrf_forms.specs.Saying.{said}
 use Rattle.xrf_forms.specs.Table.{parts_of}

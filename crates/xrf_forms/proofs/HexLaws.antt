@@ -1,5 +1,5 @@
 -- Bytes in hex.
-use Rattle.std.proofs.Common.{◌≡◌, ◌≤◌, ◌-◌, ℕ, List, [], ◌∷◌, length, drop, take, slice_index, refl, sym, ap, arith}
+use Rattle.std.proofs.Common.{◌≡◌, ◌≤◌, ◌-◌, ℕ, List, [], ◌∷◌, length, drop, take, slice_index, sym, ap, arith}
 use Rattle.std.proofs.lemmas.List.{take_all}
 use Rattle.xrf_forms.specs.Hex.{byte_of, one_more, filled}
 use Rattle.xrf_forms.specs.declared.torn.TornBytes.{TornBytes}

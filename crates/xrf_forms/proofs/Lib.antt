@@ -1,3 +1,4 @@
 pub mod NumberLaws
 pub mod HexLaws
 pub mod FormLaws
+pub mod ApartLaws

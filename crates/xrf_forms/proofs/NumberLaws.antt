@@ -1,9 +1,8 @@
 -- Numbers in texts.
-use Rattle.std.proofs.Common.{◌≡◌, ◌≤◌, ◌<◌, ◌+◌, ◌*◌, ◌^◌, ◌==◌, ◌&&◌, ◌||◌, not, ℕ, zero, suc, Bool, true, false, if◌then◌else◌, Option, Some, None, List, length, refl, sym, ◌∙◌, ap, nat_le, arith, rules, subst, slice_index, get_or, add-one}
+use Rattle.std.proofs.Common.{◌≡◌, ◌≤◌, ◌<◌, ◌+◌, ◌*◌, ◌^◌, ◌==◌, ◌||◌, not, ℕ, zero, suc, Bool, true, false, Some, List, length, refl, sym, ◌∙◌, ap, arith, rules, subst, slice_index, get_or, add-one}
 use Rattle.std.proofs.lemmas.Option.{cond_some}
 use Rattle.std.proofs.lemmas.Bool.{eqb-true, eq-eqb, le-leb, leb-true}
 use Rattle.std.specs.Cmp.Derive.{both_true}
-use Rattle.std.specs.Option.{option_and_then}
 use Rattle.xrf_base.proofs.Texts.{both-left, both-right}
 use Rattle.std.proofs.Math.Nat.{pow-le-pow_right, pow-succ'}
 use Rattle.std.specs.Int.{IsInRange}

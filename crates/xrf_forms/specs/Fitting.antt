@@ -1,6 +1,6 @@
 -- The fitting forms of a line, and the first reason for which it is none of them.
-use Rattle.std.specs.Prelude.{ℕ, Bool, true, false, ◌+◌, ◌==◌, ◌&&◌, nat_lt, List, [], ◌∷◌, Option, Some, None, Result, Ok, Err, if◌then◌else◌}
-use Rattle.std.specs.Option.{option_or, ok_or}
+use Rattle.std.specs.Prelude.{ℕ, Bool, true, false, ◌+◌, ◌==◌, ◌&&◌, nat_lt, List, [], ◌∷◌, Option, Some, None, Result, Err, if◌then◌else◌}
+use Rattle.std.specs.Option.{ok_or}
 use Rattle.std.specs.Str.{bytes_eq}
 use Rattle.xrf_forms.specs.declared.reason.Reason.{Reason}
 use Rattle.xrf_forms.specs.declared.reason.Reason.TheVariants.{UnknownWord, WordCount}

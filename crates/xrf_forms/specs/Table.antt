@@ -3,10 +3,9 @@
 -- A form is a list of parts, one for each word. A keyword stands with the reason of another word in
 -- its place: BAD-ITEM right behind WORK and a site, BAD-PLAN right behind PLAN and a tick, BAD-CEBT
 -- in a command, UNKNOWN-WORD at the head of a line, BAD-OPTION elsewhere.
-use Rattle.std.specs.Prelude.{ℕ, Bool, true, false, not, List, [], ◌∷◌, ◌++◌, map, filter, if◌then◌else◌}
+use Rattle.std.specs.Prelude.{Bool, true, false, not, List, [], ◌∷◌, ◌++◌, map, filter, if◌then◌else◌}
 use Rattle.xrf_base.specs.declared.site.Takeovr.TheVariants.{Auto, Manual, Command}
 use Rattle.xrf_cebt.specs.declared.commands.Cebt.TheVariants.{PerformTakeover, PerformShutdown, InquireTakeover, InquireSurveillance, SetTakeover, SetSurveillance}
-use Rattle.xrf_exit.specs.declared.ExitAnswer.{ExitAnswer}
 use Rattle.xrf_exit.specs.declared.ExitAnswer.TheVariants as answer
 use Rattle.xrf_forms.specs.declared.reason.Reason.TheVariants.{UnknownWord, BadOption, BadItem, BadCebt, BadPlan}
 use Rattle.xrf_forms.specs.declared.keyword.Keyword.{Keyword}

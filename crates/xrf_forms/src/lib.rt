@@ -11,7 +11,7 @@ mod operand;
 pub mod reading;
 pub mod reason;
 mod saying;
-pub mod table;
+mod table;
 pub mod torn;
 mod word;
 
@@ -19,9 +19,8 @@ pub use choice::{Choice, Landing};
 pub use form::{Form, Format};
 pub use keyword::Keyword;
 pub use line::Line;
-pub use reading::{read_header, read_line};
+pub use reading::{read_choice, read_header, read_setting};
 pub use reason::Reason;
-pub use table::{choices, settings};
 pub use torn::TornBytes;
 
 #[cfg(test)]

@@ -1,7 +1,9 @@
 //! How a line is read by the table of forms.
 
-ghost use Rattle.std.specs.Prelude.{◌≡◌, IfOk};
+ghost use Rattle.std.specs.Prelude.{◌≡◌, IfOk, IfErr};
 ghost use Rattle.xrf_forms.specs.Grammar.{Spells};
+ghost use Rattle.xrf_forms.specs.Table.{settings_of, choices_table};
+ghost use Rattle.xrf_forms.specs.declared.line.Line.{Line};
 ghost use Rattle.xrf_text.specs.Text.{words};
 ghost use Rattle.xrf_forms.specs.Reading.{line_of_form, line_of, are_two, header_of};
 
@@ -10,6 +12,7 @@ use crate::form::{Form, Format};
 use crate::line::Line;
 use crate::reason::Reason;
 use crate::saying::say;
+use crate::table::{choices, settings};
 use crate::word::{first_word, second_word};
 use xrf_text::split_word;
 
@@ -25,14 +28,26 @@ fn read_form(form: Form, line: &[u8]) -> Result<Line, Reason>
     }
 }
 
-/// What a line says by the forms of its part of the text, or the first reason for which it is none
-/// of them. The line has no byte outside blank to `~`.
+/// What a line between the header and the line CHOICES says, or that this line is CHOICES; else the
+/// first reason for which the line is none of them. The line has no byte outside blank to `~`.
 #[tactic(auto, using(crate::proofs::FormLaws::found_by_reading))]
-pub fn read_line(forms: &[Form], line: &[u8]) -> Result<Line, Reason>
-    ensures found { IfOk result (λ says. Spells forms.now (words line.now) says) }
-    ensures exact { result ≡ line_of forms.now (words line.now) }
+pub fn read_setting(format: Format, line: &[u8]) -> Result<Line, Reason>
+    ensures found { IfOk result (λ says. Spells (settings_of format) (words line.now) says) }
+    ensures none { IfErr result (λ reason. (says : Line) → Spells (settings_of format) (words line.now) says → ⊥) }
+    ensures exact { result ≡ line_of (settings_of format) (words line.now) }
 {
-    read_by_form(forms, line)
+    read_by_form(settings(format), line)
+}
+
+/// What a line behind the line CHOICES says, or the first reason for which it is none. The line has
+/// no byte outside blank to `~`.
+#[tactic(auto, using(crate::proofs::FormLaws::found_by_reading))]
+pub fn read_choice(line: &[u8]) -> Result<Line, Reason>
+    ensures found { IfOk result (λ says. Spells choices_table (words line.now) says) }
+    ensures none { IfErr result (λ reason. (says : Line) → Spells choices_table (words line.now) says → ⊥) }
+    ensures exact { result ≡ line_of choices_table (words line.now) }
+{
+    read_by_form(choices(), line)
 }
 
 fn read_by_form(forms: &[Form], line: &[u8]) -> Result<Line, Reason>

@@ -2,8 +2,8 @@ use super::*;
 use std::test::Fail;
 use xrf_base::{Item, Site};
 
-fn reason(forms: &[Form], line: &[u8]) -> Option<Reason> {
-    match read_line(forms, line) {
+fn reason(read: Result<Line, Reason>) -> Option<Reason> {
+    match read {
         Ok(_) => None,
         Err(reason) => Some(reason),
     }
@@ -55,7 +55,11 @@ fn settings_are_refused_by_the_first_reason(rt: HostRuntime) {
         (b"RING 65", Some(Reason::OutOfRange)),
     ];
     for (place, (line, want)) in table.iter().enumerate() {
-        assert_eq!(rt; reason(settings(Format::One), line), *want, "row {place}");
+        assert_eq!(rt;
+            reason(read_setting(Format::One, line)),
+            *want,
+            "row {place}"
+        );
     }
 }
 
@@ -107,7 +111,11 @@ fn ranges_records_and_lists(rt: HostRuntime) {
         (b"CHOICES X", Some(Reason::WordCount)),
     ];
     for (place, (line, want)) in table.iter().enumerate() {
-        assert_eq!(rt; reason(settings(Format::One), line), *want, "row {place}");
+        assert_eq!(rt;
+            reason(read_setting(Format::One, line)),
+            *want,
+            "row {place}"
+        );
     }
 }
 
@@ -160,7 +168,11 @@ fn work(rt: HostRuntime) {
         (b"WORK A SIGNOFF T1", Some(Reason::BadItem)),
     ];
     for (place, (line, want)) in table.iter().enumerate() {
-        assert_eq!(rt; reason(settings(Format::One), line), *want, "row {place}");
+        assert_eq!(rt;
+            reason(read_setting(Format::One, line)),
+            *want,
+            "row {place}"
+        );
     }
 }
 
@@ -183,7 +195,11 @@ fn the_forms_of_format_two(rt: HostRuntime) {
         (b"WORK B SIGNOFF T1 X", Some(Reason::WordCount)),
     ];
     for (place, (line, want)) in table.iter().enumerate() {
-        assert_eq!(rt; reason(settings(Format::Two), line), *want, "row {place}");
+        assert_eq!(rt;
+            reason(read_setting(Format::Two, line)),
+            *want,
+            "row {place}"
+        );
     }
 }
 
@@ -219,7 +235,11 @@ fn plans(rt: HostRuntime) {
         ),
     ];
     for (place, (line, want)) in table.iter().enumerate() {
-        assert_eq!(rt; reason(settings(Format::One), line), *want, "row {place}");
+        assert_eq!(rt;
+            reason(read_setting(Format::One, line)),
+            *want,
+            "row {place}"
+        );
     }
 }
 
@@ -274,7 +294,7 @@ fn choices_are_refused_by_the_first_reason(rt: HostRuntime) {
         (b"REPLY B WAIT", Some(Reason::BadOption)),
     ];
     for (place, (line, want)) in table.iter().enumerate() {
-        assert_eq!(rt; reason(choices(), line), *want, "row {place}");
+        assert_eq!(rt; reason(read_choice(line)), *want, "row {place}");
     }
 }
 
@@ -303,7 +323,7 @@ fn commands_and_exits(rt: HostRuntime) {
         (b"tick", Some(Reason::UnknownWord)),
     ];
     for (place, (line, want)) in table.iter().enumerate() {
-        assert_eq!(rt; reason(choices(), line), *want, "row {place}");
+        assert_eq!(rt; reason(read_choice(line)), *want, "row {place}");
     }
 }
 
@@ -319,25 +339,20 @@ fn a_header_names_the_format(rt: HostRuntime) {
 
 #[test]
 fn a_line_says_what_its_words_spell(rt: HostRuntime) -> Result<(), Fail> {
-    let Ok(Line::Work(Site::B, Item::Get(unit, 7))) = read_line(
-        settings(Format::One),
-        b"WORK B GET U1 7",
-    ) else {
-        return Err("another line".into());
-    };
-    assert_eq!(rt; unit.text(), b"U1".as_slice());
-    let Ok(Line::Plan(5, Choice::Stop(Site::A, Landing::Torn(torn)))) = read_line(
-        settings(Format::One),
-        b"PLAN 5 STOP A TORN c1Ff",
-    ) else {
-        return Err("another plan".into());
-    };
-    assert_eq!(rt; torn.bytes(), [0xc1, 0xff].as_slice());
     assert!(rt;
         matches!(
-            read_line(choices(), b"STEP A 7"),
+            read_setting(Format::One, b"WORK B GET U1 7"),
+            Ok(Line::Work(Site::B, Item::Get(_, 7)))
+        )
+    );
+    assert!(rt;
+        matches!(
+            read_choice(b"STEP A 7"),
             Ok(Line::Times(Choice::Step(Site::A), 7))
         )
     );
+    let torn = TornBytes::from_hex(b"c1Ff").ok_or("no hex")?;
+    assert_eq!(rt; torn.bytes(), [0xc1, 0xff].as_slice());
+    assert!(rt; TornBytes::from_hex(b"c1f").is_none());
     Ok(())
 }

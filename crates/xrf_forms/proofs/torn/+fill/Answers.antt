@@ -1,5 +1,5 @@
-use Rattle.std.proofs.Common.{◌≡◌, ◌∙◌, ap, sym, drop, take, length, ◌-◌, ℕ, List}
-use Rattle.xrf_forms.specs.Hex.{byte_of, one_more, filled}
+use Rattle.std.proofs.Common.{◌∙◌, ap, sym, drop, take, length, ◌-◌}
+use Rattle.xrf_forms.specs.Hex.{one_more, filled}
 use Rattle.xrf_forms.specs.declared.torn.TornBytes.{TornBytes}
 use Rattle.xrf_forms.proofs.HexLaws.{two_more}
 use Rattle.xrf_forms.proofs.torn.+fill.Goals as goal

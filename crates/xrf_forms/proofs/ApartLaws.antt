@@ -1,6 +1,6 @@
 -- No words are of two forms of the table, so what some words spell is read.
 use Rattle.std.proofs.Common.{◌≡◌, inl, inr, ◌≤◌, ◌<◌, ◌+◌, ◌==◌, ◌&&◌, ◌||◌, not, ℕ, Bool, true, false, if◌then◌else◌, nat_lt, nat_le, List, [], ◌∷◌, Option, Some, None, Result, Ok, Err, IfErr, refl, sym, ◌∙◌, ap, subst, arith}
-use Rattle.std.specs.Option.{ok_or}
+use Rattle.std.specs.Option.{is_some, ok_or}
 use Rattle.std.specs.List.{list_all}
 use Rattle.std.specs.Str.{bytes_eq}
 use Rattle.std.specs.Cmp.Derive.{both_true}
@@ -17,11 +17,12 @@ use Rattle.xrf_forms.specs.declared.line.Line.{Line}
 use Rattle.xrf_forms.specs.declared.form.Format.{Format}
 use Rattle.xrf_forms.specs.declared.form.Format.TheVariants.{One, Two}
 use Rattle.xrf_forms.specs.Fitting.{keyword_of, takes_all, takes, most_agreed, agreed_by, agreed, fits_best, fitting, form_for, wrong, before_wrong, first_fault}
-use Rattle.xrf_forms.specs.Grammar.{IsOfPart, Unless, AreOfForm, IsAmong, Spells}
+use Rattle.xrf_forms.specs.Grammar.{IsOfPart, Unless, AreOfForm, IsAmong, Spells, AreOfNone}
 use Rattle.xrf_forms.specs.Keywords.{keyword_text}
 use Rattle.xrf_forms.specs.Operands.{is_multiple_of, fault_unless, number_fault, operand_fault}
 use Rattle.xrf_forms.specs.Reading.{unless_fault, by_form, line_of}
 use Rattle.xrf_forms.specs.Saying.{said}
+use Rattle.xrf_forms.proofs.SayingLaws.{said-some}
 use Rattle.xrf_forms.specs.Table.{parts_of, settings_of, choices_table}
 
 kept-again : (test : Bool) (reason : Reason) → test ≡ true → fault_unless test reason ≡ None
@@ -334,15 +335,20 @@ settings-apart Two = refl
 choices-apart : are_apart choices_table ≡ true
 choices-apart = refl
 
-not_spelled : (forms : List Form) (ws : List (List ℕ)) (r : Result Line Reason) → are_apart forms ≡ true → r ≡ line_of forms ws
-    → IfErr r (λ reason. (line : Line) → Spells forms ws line → ⊥)
-not_spelled forms ws (Ok line) apart e = tt
-not_spelled forms ws (Err reason) apart e = λ line s. let clash : Err reason ≡ Ok line = e ∙ line-again forms ws line apart s in cc
+-- so words of a form are not refused
+not_refused : (forms : List Form) (ws : List (List ℕ)) (reason : Reason) (form : Form) (o : Option Line) → are_apart forms ≡ true → Err reason ≡ line_of forms ws
+    → IsAmong form forms → AreOfForm (parts_of form) ws → said form ws ≡ o → is_some o ≡ true → ⊥
+not_refused forms ws reason form None apart e among of says some = absurd (cc)
+not_refused forms ws reason form (Some line) apart e among of says some =
+    let clash : Err reason ≡ Ok line = e ∙ line-again forms ws line apart (record { form = form; among = among; fit = of; line = says }) in cc
 
-pub no_setting : (format : Format) (ws : List (List ℕ)) (r : Result Line Reason) → r ≡ line_of (settings_of format) ws
-    → IfErr r (λ reason. (line : Line) → Spells (settings_of format) ws line → ⊥)
-no_setting format ws r e = not_spelled (settings_of format) ws r (settings-apart format) e
+not_of_form : (forms : List Form) (ws : List (List ℕ)) (r : Result Line Reason) → are_apart forms ≡ true → r ≡ line_of forms ws
+    → IfErr r (λ reason. AreOfNone forms ws)
+not_of_form forms ws (Ok line) apart e = tt
+not_of_form forms ws (Err reason) apart e = λ form among of. not_refused forms ws reason form (said form ws) apart e among of refl (said-some form ws of)
 
-pub no_choice : (ws : List (List ℕ)) (r : Result Line Reason) → r ≡ line_of choices_table ws
-    → IfErr r (λ reason. (line : Line) → Spells choices_table ws line → ⊥)
-no_choice ws r e = not_spelled choices_table ws r choices-apart e
+pub no_setting : (format : Format) (ws : List (List ℕ)) (r : Result Line Reason) → r ≡ line_of (settings_of format) ws → IfErr r (λ reason. AreOfNone (settings_of format) ws)
+no_setting format ws r e = not_of_form (settings_of format) ws r (settings-apart format) e
+
+pub no_choice : (ws : List (List ℕ)) (r : Result Line Reason) → r ≡ line_of choices_table ws → IfErr r (λ reason. AreOfNone choices_table ws)
+no_choice ws r e = not_of_form choices_table ws r choices-apart e

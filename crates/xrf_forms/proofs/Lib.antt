@@ -1,4 +1,5 @@
 pub mod NumberLaws
 pub mod HexLaws
 pub mod FormLaws
+pub mod SayingLaws
 pub mod ApartLaws

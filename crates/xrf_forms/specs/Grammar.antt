@@ -57,3 +57,7 @@ pub record Spells (forms : List Form) (ws : List (List ℕ)) (says : Line) : Typ
   pub among : IsAmong form forms
   pub fit : AreOfForm (parts_of form) ws
   pub line : said form ws ≡ Some says
+
+-- some words are of none of the forms
+abbrev pub AreOfNone : List Form → List (List ℕ) → Type 0
+AreOfNone forms ws = (form : Form) → IsAmong form forms → AreOfForm (parts_of form) ws → ⊥

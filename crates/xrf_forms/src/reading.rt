@@ -1,9 +1,8 @@
 //! How a line is read by the table of forms.
 
 ghost use Rattle.std.specs.Prelude.{◌≡◌, IfOk, IfErr};
-ghost use Rattle.xrf_forms.specs.Grammar.{Spells};
+ghost use Rattle.xrf_forms.specs.Grammar.{AreOfNone, Spells};
 ghost use Rattle.xrf_forms.specs.Table.{settings_of, choices_table};
-ghost use Rattle.xrf_forms.specs.declared.line.Line.{Line};
 ghost use Rattle.xrf_text.specs.Text.{words};
 ghost use Rattle.xrf_forms.specs.Reading.{line_of_form, line_of, are_two, header_of};
 
@@ -33,7 +32,7 @@ fn read_form(form: Form, line: &[u8]) -> Result<Line, Reason>
 #[tactic(auto, using(crate::proofs::FormLaws::found_by_reading))]
 pub fn read_setting(format: Format, line: &[u8]) -> Result<Line, Reason>
     ensures found { IfOk result (λ says. Spells (settings_of format) (words line.now) says) }
-    ensures none { IfErr result (λ reason. (says : Line) → Spells (settings_of format) (words line.now) says → ⊥) }
+    ensures none { IfErr result (λ reason. AreOfNone (settings_of format) (words line.now)) }
     ensures exact { result ≡ line_of (settings_of format) (words line.now) }
 {
     read_by_form(settings(format), line)
@@ -44,7 +43,7 @@ pub fn read_setting(format: Format, line: &[u8]) -> Result<Line, Reason>
 #[tactic(auto, using(crate::proofs::FormLaws::found_by_reading))]
 pub fn read_choice(line: &[u8]) -> Result<Line, Reason>
     ensures found { IfOk result (λ says. Spells choices_table (words line.now) says) }
-    ensures none { IfErr result (λ reason. (says : Line) → Spells choices_table (words line.now) says → ⊥) }
+    ensures none { IfErr result (λ reason. AreOfNone choices_table (words line.now)) }
     ensures exact { result ≡ line_of choices_table (words line.now) }
 {
     read_by_form(choices(), line)

@@ -9,3 +9,4 @@ pub mod Fitting
 pub mod Saying
 pub mod Reading
 pub mod Grammar
+pub mod Spelling

@@ -14,6 +14,7 @@ mod saying;
 mod table;
 pub mod torn;
 mod word;
+pub mod writing;
 
 pub use choice::{Choice, Landing};
 pub use form::{Form, Format};
@@ -22,6 +23,7 @@ pub use line::Line;
 pub use reading::{read_choice, read_header, read_setting};
 pub use reason::Reason;
 pub use torn::TornBytes;
+pub use writing::{put_choice, put_item};
 
 #[cfg(test)]
 mod tests;

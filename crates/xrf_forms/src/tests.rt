@@ -356,3 +356,61 @@ fn a_line_says_what_its_words_spell(rt: HostRuntime) -> Result<(), Fail> {
     assert!(rt; TornBytes::from_hex(b"c1f").is_none());
     Ok(())
 }
+
+#[test]
+fn choices_are_written_as_they_are_read(rt: HostRuntime) -> Result<(), Fail> {
+    let table: [&[u8]; 14] = [
+        b"TICK",
+        b"STEP B",
+        b"LOSE A",
+        b"STOP A NONE",
+        b"STOP B ALL",
+        b"STOP A TORN c1ff",
+        b"FAIL B TORN 00",
+        b"START A ACTIVE",
+        b"START B STANDBY",
+        b"ABEND A",
+        b"CONFIRM 65535",
+        b"REPLY A IGNORE",
+        b"CEBT B SET TAKEOVER MANUAL",
+        b"EXIT A DROP",
+    ];
+    for line in table {
+        let Ok(Line::Once(choice)) = read_choice(line) else {
+            panic!(rt; "no choice");
+        };
+        let mut out = Vec::new(rt.alloc());
+        put_choice(rt.alloc(), &mut out, &choice)?;
+        assert_eq!(rt; out.as_slice(), line);
+    }
+    Ok(())
+}
+
+#[test]
+fn items_are_written_as_they_are_read(rt: HostRuntime) -> Result<(), Fail> {
+    let table: [&[u8]; 11] = [
+        b"BEGIN U1",
+        b"PUT U1 65535 lower",
+        b"GET U1 0",
+        b"COMMIT U1",
+        b"ROLL U1",
+        b"LOGON T1 3",
+        b"LOGOFF T1",
+        b"SIGNON T1 USER1",
+        b"SIGNOFF T1",
+        b"CEMT SHUTDOWN",
+        b"CEMT SHUTDOWN TAKEOVER",
+    ];
+    for text in table {
+        let mut line = Vec::new(rt.alloc());
+        line.extend_from_slice(b"WORK A ")?;
+        line.extend_from_slice(text)?;
+        let Ok(Line::Work(_, item)) = read_setting(Format::Two, line.as_slice()) else {
+            panic!(rt; "no item");
+        };
+        let mut out = Vec::new(rt.alloc());
+        put_item(rt.alloc(), &mut out, &item)?;
+        assert_eq!(rt; out.as_slice(), text);
+    }
+    Ok(())
+}

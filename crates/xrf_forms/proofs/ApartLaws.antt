@@ -332,7 +332,7 @@ settings-apart : (format : Format) → are_apart (settings_of format) ≡ true
 settings-apart One = refl
 settings-apart Two = refl
 
-choices-apart : are_apart choices_table ≡ true
+pub choices-apart : are_apart choices_table ≡ true
 choices-apart = refl
 
 -- so words of a form are not refused

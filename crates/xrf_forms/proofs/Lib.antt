@@ -3,3 +3,4 @@ pub mod HexLaws
 pub mod FormLaws
 pub mod SayingLaws
 pub mod ApartLaws
+pub mod RoundLaws

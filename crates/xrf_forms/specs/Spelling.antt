@@ -1,5 +1,5 @@
 -- How a choice and a work item are written.
-use Rattle.std.specs.Prelude.{ℕ, Bool, true, false, ◌+◌, ◌/◌, ◌%◌, nat_lt, List, [], ◌∷◌, ◌++◌, flat_map, codes, if◌then◌else◌}
+use Rattle.std.specs.Prelude.{ℕ, Bool, true, false, ◌+◌, ◌/◌, ◌%◌, ◌≤◌, nat_lt, List, [], ◌∷◌, ◌++◌, flat_map, codes, if◌then◌else◌}
 use Rattle.std.specs.Fmt.{decimal}
 use Rattle.xrf_base.specs.declared.site.Site.{Site}
 use Rattle.xrf_base.specs.declared.site.Site.TheVariants.{A, B}
@@ -79,3 +79,10 @@ item_text item.Shutdown = codes "CEMT SHUTDOWN"
 item_text item.ShutdownTakeover = codes "CEMT SHUTDOWN TAKEOVER"
 item_text (item.Signon terminal user) = codes "SIGNON " ++ terminal ++ codes " " ++ user
 item_text (item.Signoff terminal) = codes "SIGNOFF " ++ terminal
+
+-- a choice without bytes of a torn write, whose number a line can spell
+abbrev pub HasLine : Choice → Type 0
+HasLine (choice.Confirm number) = number ≤ 65535
+HasLine (choice.Stop site (Torn torn)) = ⊥
+HasLine (choice.Fail site (Torn torn)) = ⊥
+HasLine _ = Unit {0}

@@ -1,9 +1,13 @@
 //! How a choice and a work item are written: one spelling of each.
 
-ghost use Rattle.std.specs.Prelude.{◌≡◌, ◌<◌, ◌++◌, OnOk, codes};
+ghost use Rattle.std.specs.Prelude.{◌≡◌, ◌<◌, ◌++◌, OnOk, Ok, codes};
 ghost use Rattle.std.specs.Fmt.{decimal};
 ghost use Rattle.xrf_cebt.specs.Command.{command_text};
-ghost use Rattle.xrf_forms.specs.Spelling.{hex_digit, hex_text, piece_text, pieces_text, site_text, site_word, answer_word, landed_text, go_text, choice_text, item_text};
+ghost use Rattle.xrf_forms.specs.Spelling.{hex_digit, hex_text, piece_text, pieces_text, site_text, site_word, answer_word, landed_text, go_text, choice_text, item_text, HasLine};
+ghost use Rattle.xrf_forms.specs.Reading.{line_of};
+ghost use Rattle.xrf_forms.specs.Table.{choices_table};
+ghost use Rattle.xrf_forms.specs.declared.line.Line.TheVariants.{Once};
+ghost use Rattle.xrf_text.specs.Text.{words};
 
 use crate::choice::{Choice, Landing};
 use Piece::{Hex, Number, Text};
@@ -247,3 +251,9 @@ pub fn put_item(alloc: Global, out: &mut Vec<u8>, item: &Item) -> Result<(), All
         Item::Signoff(terminal) => put_named(alloc, out, b"SIGNOFF ", terminal.text()),
     }
 }
+
+/// What is written of a choice is read again as that choice, once; torn bytes are left out here.
+#[tactic(auto, using(crate::proofs::RoundLaws::choice_again))]
+pub fn choices_read_again()
+    ensures { (choice : Choice) → HasLine choice → line_of choices_table (words (choice_text choice)) ≡ Ok (Once choice) }
+{}

@@ -1,0 +1,113 @@
+-- What is written of a choice is read again.
+use Rattle.std.proofs.Common.{◌≡◌, inl, inr, ◌≢◌, ◌≤◌, ◌<◌, ◌==◌, ℕ, true, false, List, [], ◌∷◌, Ok, codes, refl, ap, ◌∙◌, arith, length}
+use Rattle.std.specs.Fmt.{decimal}
+use Rattle.std.specs.Char.{is_ascii_digit}
+use Rattle.std.specs.List.{AllByRecursion, list_all}
+use Rattle.std.proofs.lemmas.Bool.{eq-eqb}
+use Rattle.std.proofs.lemmas.Fmt.{digits_decimal, decimal_nonempty}
+use Rattle.xrf_base.proofs.Texts.{both-left, both-right}
+use Rattle.xrf_base.specs.declared.site.Site.TheVariants.{A, B}
+use Rattle.xrf_base.specs.declared.site.Takeovr.TheVariants.{Auto, Manual, Command}
+use Rattle.xrf_cebt.specs.declared.commands.Cebt.TheVariants.{PerformTakeover, PerformShutdown, InquireTakeover, InquireSurveillance, SetTakeover, SetSurveillance}
+use Rattle.xrf_exit.specs.declared.ExitAnswer.TheVariants as answer
+use Rattle.xrf_text.specs.Text.{words, IsWord}
+use Rattle.xrf_text.proofs.Joined.{words-joined}
+use Rattle.xrf_forms.specs.declared.form.Form.TheVariants as form
+use Rattle.xrf_forms.specs.declared.form.ChoiceForm.TheVariants as by
+use Rattle.xrf_forms.specs.declared.choice.Landing.TheVariants.{Nothing, All, Torn}
+use Rattle.xrf_forms.specs.declared.choice.Choice.{Choice}
+use Rattle.xrf_forms.specs.declared.choice.Choice.TheVariants as choice
+use Rattle.xrf_forms.specs.declared.line.Line.TheVariants.{Once}
+use Rattle.xrf_forms.specs.Grammar.{IsAmong}
+use Rattle.xrf_forms.specs.Reading.{line_of}
+use Rattle.xrf_forms.specs.Spelling.{choice_text, HasLine}
+use Rattle.xrf_forms.specs.Table.{choices_table}
+use Rattle.xrf_forms.proofs.ApartLaws.{line-again, choices-apart}
+use Rattle.xrf_forms.proofs.NumberLaws.{numerals, number-of-decimal, digits-no_blank}
+
+-- digits have no blank
+no_blank : (text : List ℕ) → list_all is_ascii_digit text ≡ true → AllByRecursion (λ b. b ≢ 32) text
+no_blank [] h = tt
+no_blank (b ∷ bs) h =
+    (λ same. let clash : (b == 32) ≡ true = eq-eqb b 32 same in let other = digits-no_blank b (both-left _ _ h) in cc, no_blank bs (both-right _ _ h))
+
+filled : (text : List ℕ) → 0 < length text → text ≢ []
+filled [] h = absurd (omega arith)
+filled (b ∷ bs) h = λ e. cc
+
+number-word : (n : ℕ) → n ≤ 65535 → IsWord (decimal n)
+number-word n fits = record {
+  some = filled (decimal n) (decimal_nonempty n (omega arith));
+  no_blank = no_blank (decimal n) (digits_decimal numerals n (omega arith));
+}
+
+confirm-words : (n : ℕ) → n ≤ 65535 → words (choice_text (choice.Confirm n)) ≡ codes "CONFIRM" ∷ decimal n ∷ []
+confirm-words n fits = words-joined (codes "CONFIRM" ∷ decimal n ∷ []) (confirm, (number-word n fits, tt))
+  where
+    confirm : IsWord (codes "CONFIRM")
+    confirm = record { some = λ e. cc; no_blank = (λ e. cc, (λ e. cc, (λ e. cc, (λ e. cc, (λ e. cc, (λ e. cc, (λ e. cc, tt))))))) }
+
+among : IsAmong (form.Choice by.Confirm) choices_table
+among = inr (inr (inr (inr (inr (inr (inr (inr (inr (inr (inr (inr (inr (inr (inl refl))))))))))))))
+
+confirm-again : (n : ℕ) → n ≤ 65535 → line_of choices_table (words (choice_text (choice.Confirm n))) ≡ Ok (Once (choice.Confirm n))
+confirm-again n fits =
+    ap (line_of choices_table) (confirm-words n fits)
+    ∙ line-again choices_table (codes "CONFIRM" ∷ decimal n ∷ []) (Once (choice.Confirm n)) choices-apart record {
+      form = form.Choice by.Confirm;
+      among = among;
+      fit = (refl, (record { value = n; spelled = number-of-decimal n fits; low = omega arith; high = fits; also_kept = refl }, tt));
+      line = rw (number-of-decimal n fits) refl;
+    }
+
+pub choice_again : (c : Choice) → HasLine c → line_of choices_table (words (choice_text c)) ≡ Ok (Once c)
+choice_again (choice.Confirm n) fits = confirm-again n fits
+choice_again (choice.Stop site (Torn torn)) fits = absurd fits
+choice_again (choice.Fail site (Torn torn)) fits = absurd fits
+choice_again choice.Tick fits = refl
+choice_again (choice.Step A) fits = refl
+choice_again (choice.Lose A) fits = refl
+choice_again (choice.Stop A Nothing) fits = refl
+choice_again (choice.Stop A All) fits = refl
+choice_again (choice.Fail A Nothing) fits = refl
+choice_again (choice.Fail A All) fits = refl
+choice_again (choice.StartActive A) fits = refl
+choice_again (choice.StartStandby A) fits = refl
+choice_again (choice.Abend A) fits = refl
+choice_again (choice.Reply A true) fits = refl
+choice_again (choice.Reply A false) fits = refl
+choice_again (choice.Cebt A PerformTakeover) fits = refl
+choice_again (choice.Cebt A PerformShutdown) fits = refl
+choice_again (choice.Cebt A InquireTakeover) fits = refl
+choice_again (choice.Cebt A InquireSurveillance) fits = refl
+choice_again (choice.Cebt A (SetTakeover Auto)) fits = refl
+choice_again (choice.Cebt A (SetTakeover Manual)) fits = refl
+choice_again (choice.Cebt A (SetTakeover Command)) fits = refl
+choice_again (choice.Cebt A (SetSurveillance true)) fits = refl
+choice_again (choice.Cebt A (SetSurveillance false)) fits = refl
+choice_again (choice.Exit A answer.Abend) fits = refl
+choice_again (choice.Exit A answer.Keep) fits = refl
+choice_again (choice.Exit A answer.Drop) fits = refl
+choice_again (choice.Step B) fits = refl
+choice_again (choice.Lose B) fits = refl
+choice_again (choice.Stop B Nothing) fits = refl
+choice_again (choice.Stop B All) fits = refl
+choice_again (choice.Fail B Nothing) fits = refl
+choice_again (choice.Fail B All) fits = refl
+choice_again (choice.StartActive B) fits = refl
+choice_again (choice.StartStandby B) fits = refl
+choice_again (choice.Abend B) fits = refl
+choice_again (choice.Reply B true) fits = refl
+choice_again (choice.Reply B false) fits = refl
+choice_again (choice.Cebt B PerformTakeover) fits = refl
+choice_again (choice.Cebt B PerformShutdown) fits = refl
+choice_again (choice.Cebt B InquireTakeover) fits = refl
+choice_again (choice.Cebt B InquireSurveillance) fits = refl
+choice_again (choice.Cebt B (SetTakeover Auto)) fits = refl
+choice_again (choice.Cebt B (SetTakeover Manual)) fits = refl
+choice_again (choice.Cebt B (SetTakeover Command)) fits = refl
+choice_again (choice.Cebt B (SetSurveillance true)) fits = refl
+choice_again (choice.Cebt B (SetSurveillance false)) fits = refl
+choice_again (choice.Exit B answer.Abend) fits = refl
+choice_again (choice.Exit B answer.Keep) fits = refl
+choice_again (choice.Exit B answer.Drop) fits = refl

@@ -1,6 +1,7 @@
 pub mod NumberLaws
-pub mod HexLaws
+pub mod Filling
 pub mod FormLaws
 pub mod SayingLaws
 pub mod ApartLaws
 pub mod RoundLaws
+pub mod TornLaws

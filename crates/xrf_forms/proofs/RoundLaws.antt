@@ -1,11 +1,13 @@
 -- What is written of a choice is read again.
-use Rattle.std.proofs.Common.{◌≡◌, inl, inr, ◌≢◌, ◌≤◌, ◌<◌, ◌==◌, ℕ, true, false, List, [], ◌∷◌, Ok, codes, refl, ap, ◌∙◌, arith, length}
+use Rattle.std.proofs.Common.{◌≡◌, inl, inr, ◌≢◌, ◌≤◌, ◌<◌, ◌==◌, ℕ, true, false, IsTrue, Some, List, [], ◌∷◌, Ok, codes, refl, ap, ◌∙◌, arith, length}
 use Rattle.std.specs.Fmt.{decimal}
 use Rattle.std.specs.Char.{is_ascii_digit}
-use Rattle.std.specs.List.{AllByRecursion, list_all}
+use Rattle.std.specs.List.{AllByRecursion, list_all, join_with_byte}
 use Rattle.std.proofs.lemmas.Bool.{eq-eqb}
 use Rattle.std.proofs.lemmas.Fmt.{digits_decimal, decimal_nonempty}
 use Rattle.xrf_base.proofs.Texts.{both-left, both-right}
+use Rattle.std.specs.Option.{is_some}
+use Rattle.xrf_base.specs.declared.site.Site.{Site}
 use Rattle.xrf_base.specs.declared.site.Site.TheVariants.{A, B}
 use Rattle.xrf_base.specs.declared.site.Takeovr.TheVariants.{Auto, Manual, Command}
 use Rattle.xrf_cebt.specs.declared.commands.Cebt.TheVariants.{PerformTakeover, PerformShutdown, InquireTakeover, InquireSurveillance, SetTakeover, SetSurveillance}
@@ -20,7 +22,10 @@ use Rattle.xrf_forms.specs.declared.choice.Choice.TheVariants as choice
 use Rattle.xrf_forms.specs.declared.line.Line.TheVariants.{Once}
 use Rattle.xrf_forms.specs.Grammar.{IsAmong}
 use Rattle.xrf_forms.specs.Reading.{line_of}
-use Rattle.xrf_forms.specs.Spelling.{choice_text, HasLine}
+use Rattle.xrf_forms.specs.Spelling.{choice_text, hex_text, HasLine, IsTorn}
+use Rattle.xrf_forms.specs.Hex.{is_hex}
+use Rattle.xrf_forms.specs.Operands.{site_of}
+use Rattle.xrf_forms.proofs.TornLaws.{is-hex, torn-again, hex-word}
 use Rattle.xrf_forms.specs.Table.{choices_table}
 use Rattle.xrf_forms.proofs.ApartLaws.{line-again, choices-apart}
 use Rattle.xrf_forms.proofs.NumberLaws.{numerals, number-of-decimal, digits-no_blank}
@@ -60,10 +65,63 @@ confirm-again n fits =
       line = rw (number-of-decimal n fits) refl;
     }
 
+-- the words of a torn write
+torn-words : (word site : List ℕ) (bytes : List ℕ) → IsWord word → IsWord site → IsTorn bytes
+    → words (join_with_byte 32 (word ∷ site ∷ codes "TORN" ∷ hex_text bytes ∷ [])) ≡ word ∷ site ∷ codes "TORN" ∷ hex_text bytes ∷ []
+torn-words word site bytes one other h = words-joined (word ∷ site ∷ codes "TORN" ∷ hex_text bytes ∷ []) (one, (other, (torn, (hex-word bytes h, tt))))
+  where
+    torn : IsWord (codes "TORN")
+    torn = record { some = λ e. cc; no_blank = (λ e. cc, (λ e. cc, (λ e. cc, (λ e. cc, tt)))) }
+
+stop : IsWord (codes "STOP")
+stop = record { some = λ e. cc; no_blank = (λ e. cc, (λ e. cc, (λ e. cc, (λ e. cc, tt)))) }
+
+fail : IsWord (codes "FAIL")
+fail = record { some = λ e. cc; no_blank = (λ e. cc, (λ e. cc, (λ e. cc, (λ e. cc, tt)))) }
+
+site-a : IsWord (codes "A")
+site-a = record { some = λ e. cc; no_blank = (λ e. cc, tt) }
+
+site-b : IsWord (codes "B")
+site-b = record { some = λ e. cc; no_blank = (λ e. cc, tt) }
+
+torn-fits : (bytes : List ℕ) → IsTorn bytes → IsTrue (is_hex (hex_text bytes))
+torn-fits bytes h = is-hex bytes h
+
+among-stop : IsAmong (form.Choice by.StopTorn) choices_table
+among-stop = inr (inr (inr (inr (inr (inr (inr (inl refl)))))))
+
+among-fail : IsAmong (form.Choice by.FailTorn) choices_table
+among-fail = inr (inr (inr (inr (inr (inr (inr (inr (inr (inr (inl refl))))))))))
+
+stop-again : (site : Site) (word bytes : List ℕ) → IsWord word → IsTorn bytes → IsTrue (is_some (site_of word)) → site_of word ≡ Some site
+    → line_of choices_table (words (join_with_byte 32 (codes "STOP" ∷ word ∷ codes "TORN" ∷ hex_text bytes ∷ []))) ≡ Ok (Once (choice.Stop site (Torn bytes)))
+stop-again site word bytes is h some reads =
+    ap (line_of choices_table) (torn-words (codes "STOP") word bytes stop is h)
+    ∙ line-again choices_table (codes "STOP" ∷ word ∷ codes "TORN" ∷ hex_text bytes ∷ []) (Once (choice.Stop site (Torn bytes))) choices-apart record {
+      form = form.Choice by.StopTorn;
+      among = among-stop;
+      fit = (refl, (some, (refl, (torn-fits bytes h, tt))));
+      line = rw reads (rw (torn-again bytes h) refl);
+    }
+
+fail-again : (site : Site) (word bytes : List ℕ) → IsWord word → IsTorn bytes → IsTrue (is_some (site_of word)) → site_of word ≡ Some site
+    → line_of choices_table (words (join_with_byte 32 (codes "FAIL" ∷ word ∷ codes "TORN" ∷ hex_text bytes ∷ []))) ≡ Ok (Once (choice.Fail site (Torn bytes)))
+fail-again site word bytes is h some reads =
+    ap (line_of choices_table) (torn-words (codes "FAIL") word bytes fail is h)
+    ∙ line-again choices_table (codes "FAIL" ∷ word ∷ codes "TORN" ∷ hex_text bytes ∷ []) (Once (choice.Fail site (Torn bytes))) choices-apart record {
+      form = form.Choice by.FailTorn;
+      among = among-fail;
+      fit = (refl, (some, (refl, (torn-fits bytes h, tt))));
+      line = rw reads (rw (torn-again bytes h) refl);
+    }
+
 pub choice_again : (c : Choice) → HasLine c → line_of choices_table (words (choice_text c)) ≡ Ok (Once c)
 choice_again (choice.Confirm n) fits = confirm-again n fits
-choice_again (choice.Stop site (Torn torn)) fits = absurd fits
-choice_again (choice.Fail site (Torn torn)) fits = absurd fits
+choice_again (choice.Stop A (Torn torn)) fits = stop-again A (codes "A") torn site-a fits refl refl
+choice_again (choice.Stop B (Torn torn)) fits = stop-again B (codes "B") torn site-b fits refl refl
+choice_again (choice.Fail A (Torn torn)) fits = fail-again A (codes "A") torn site-a fits refl refl
+choice_again (choice.Fail B (Torn torn)) fits = fail-again B (codes "B") torn site-b fits refl refl
 choice_again choice.Tick fits = refl
 choice_again (choice.Step A) fits = refl
 choice_again (choice.Lose A) fits = refl

@@ -23,7 +23,7 @@ use Rattle.xrf_forms.specs.declared.form.Form.TheVariants as form
 use Rattle.xrf_forms.specs.declared.choice.Choice.{Choice}
 use Rattle.xrf_forms.specs.Fitting.{takes_all}
 use Rattle.xrf_forms.specs.Grammar.{IsNumber, IsOfPart, Unless, AreOfForm}
-use Rattle.xrf_forms.specs.Hex.{is_hex, torn_of}
+use Rattle.xrf_forms.specs.Hex.{is_hex, torn_of_hex}
 use Rattle.xrf_forms.specs.Numbers.{number_of}
 use Rattle.xrf_forms.specs.Operands.{site_of, class_of}
 use Rattle.xrf_forms.specs.Places.{first, behind, second, third, fourth, fifth, sixth}
@@ -71,7 +71,7 @@ name-some word is = ap (λ (t : Bool). is_some (if t then Some word else None)) 
 value-some : (word : List ℕ) → IsValue word → is_some (value_of word) ≡ true
 value-some word is = ap (λ (t : Bool). is_some (if t then Some word else None)) is
 
-torn-some : (word : List ℕ) → is_hex word ≡ true → is_some (torn_of word) ≡ true
+torn-some : (word : List ℕ) → is_hex word ≡ true → is_some (torn_of_hex word) ≡ true
 torn-some word is = rw is refl
 
 -- a choice whose second part is a site
@@ -82,7 +82,7 @@ torn-last : (keyword : Word) (reason : Reason) (ws : List (List ℕ)) → AreOfF
 torn-last keyword reason ws of =
     let a = step (Site ∷ Keyword keyword reason ∷ Hex ∷ []) (behind ws) refl of in
     let b = step (Keyword keyword reason ∷ Hex ∷ []) (behind (behind ws)) refl a.1 in
-    map_some _ (torn_of (fourth ws)) (torn-some (fourth ws) (step (Hex ∷ []) (behind (behind (behind ws))) refl b.1).0)
+    map_some _ (torn_of_hex (fourth ws)) (torn-some (fourth ws) (step (Hex ∷ []) (behind (behind (behind ws))) refl b.1).0)
 
 choice-some : (f : ChoiceForm) (ws : List (List ℕ)) → AreOfForm (tail_of (choice_parts f)) (behind ws) → is_some (choice_said f ws) ≡ true
 choice-some by.Tick ws of = refl

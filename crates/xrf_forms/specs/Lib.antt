@@ -4,9 +4,11 @@ pub mod Table
 pub mod Places
 pub mod Numbers
 pub mod Hex
+pub mod Filling
 pub mod Operands
 pub mod Fitting
 pub mod Saying
 pub mod Reading
 pub mod Grammar
 pub mod Spelling
+pub mod Torn

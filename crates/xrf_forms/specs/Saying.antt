@@ -18,13 +18,13 @@ use Rattle.xrf_forms.specs.declared.choice.Choice.{Choice}
 use Rattle.xrf_forms.specs.declared.choice.Choice.TheVariants as choice
 use Rattle.xrf_forms.specs.declared.line.Line.{Line}
 use Rattle.xrf_forms.specs.declared.line.Line.TheVariants as line
-use Rattle.xrf_forms.specs.Hex.{torn_of}
+use Rattle.xrf_forms.specs.Hex.{torn_of_hex}
 use Rattle.xrf_forms.specs.Numbers.{number_of}
 use Rattle.xrf_forms.specs.Operands.{site_of, class_of}
 use Rattle.xrf_forms.specs.Places.{behind, second, third, fourth, fifth, sixth}
 
 abbrev pub torn_said : List (List ℕ) → Option Landing
-torn_said ws = option_map Torn (torn_of (fourth ws))
+torn_said ws = option_map Torn (torn_of_hex (fourth ws))
 
 -- a choice of a site
 abbrev pub site_said : ChoiceForm → Site → List (List ℕ) → Option Choice

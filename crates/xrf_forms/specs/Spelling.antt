@@ -1,6 +1,7 @@
 -- How a choice and a work item are written.
-use Rattle.std.specs.Prelude.{ℕ, Bool, true, false, ◌+◌, ◌/◌, ◌%◌, ◌≤◌, nat_lt, List, [], ◌∷◌, ◌++◌, flat_map, codes, if◌then◌else◌}
+use Rattle.std.specs.Prelude.{ℕ, Bool, true, false, ◌+◌, ◌/◌, ◌%◌, ◌≤◌, ◌<◌, nat_lt, List, length, [], ◌∷◌, ◌++◌, flat_map, codes, if◌then◌else◌}
 use Rattle.std.specs.Fmt.{decimal}
+use Rattle.std.specs.List.{AllByRecursion}
 use Rattle.xrf_base.specs.declared.site.Site.{Site}
 use Rattle.xrf_base.specs.declared.site.Site.TheVariants.{A, B}
 use Rattle.xrf_base.specs.declared.items.Item.{Item}
@@ -14,7 +15,6 @@ use Rattle.xrf_forms.specs.declared.choice.Landing.{Landing}
 use Rattle.xrf_forms.specs.declared.choice.Landing.TheVariants.{Nothing, All, Torn}
 use Rattle.xrf_forms.specs.declared.choice.Choice.{Choice}
 use Rattle.xrf_forms.specs.declared.choice.Choice.TheVariants as choice
-use Rattle.xrf_forms.specs.Hex.{torn_bytes}
 
 -- 0 to 9 and a to f
 abbrev pub hex_digit : ℕ → ℕ
@@ -47,7 +47,7 @@ site_text word site more = word ++ codes " " ++ site_word site ++ more
 abbrev pub landed_text : List ℕ → Site → Landing → List ℕ
 landed_text word site Nothing = site_text word site (codes " NONE")
 landed_text word site All = site_text word site (codes " ALL")
-landed_text word site (Torn torn) = site_text word site (codes " TORN " ++ hex_text (torn_bytes torn))
+landed_text word site (Torn torn) = site_text word site (codes " TORN " ++ hex_text torn)
 
 abbrev pub go_text : Site → Bool → List ℕ
 go_text site true = site_text (codes "REPLY") site (codes " GO")
@@ -80,9 +80,15 @@ item_text item.ShutdownTakeover = codes "CEMT SHUTDOWN TAKEOVER"
 item_text (item.Signon terminal user) = codes "SIGNON " ++ terminal ++ codes " " ++ user
 item_text (item.Signoff terminal) = codes "SIGNOFF " ++ terminal
 
--- a choice without bytes of a torn write, whose number a line can spell
+-- 1 to 63 bytes
+pub record IsTorn (bytes : List ℕ) : Type 0 where
+  pub least : 1 ≤ length bytes
+  pub most : length bytes ≤ 63
+  pub each : AllByRecursion (λ b. b < 256) bytes
+
+-- a choice whose number and whose torn bytes a line can spell
 abbrev pub HasLine : Choice → Type 0
 HasLine (choice.Confirm number) = number ≤ 65535
-HasLine (choice.Stop site (Torn torn)) = ⊥
-HasLine (choice.Fail site (Torn torn)) = ⊥
+HasLine (choice.Stop site (Torn torn)) = IsTorn torn
+HasLine (choice.Fail site (Torn torn)) = IsTorn torn
 HasLine _ = Unit {0}

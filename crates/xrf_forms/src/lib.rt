@@ -4,6 +4,7 @@
 pub mod choice;
 mod fitting;
 pub mod form;
+mod hex;
 pub mod keyword;
 pub mod line;
 mod number;

@@ -4,9 +4,9 @@ ghost use Rattle.std.specs.Prelude.{◌≡◌};
 ghost use Rattle.xrf_forms.specs.Operands.{site_of, range_fault, multiple_fault, fault_unless, operand_fault, class_of, is_multiple_of};
 
 use crate::form::Part;
+use crate::hex::spells_hex;
 use crate::number::read_number;
 use crate::reason::Reason;
-use crate::torn::spells_hex;
 use xrf_base::Site;
 use xrf_base::names::spells_name;
 use xrf_base::values::spells_value;

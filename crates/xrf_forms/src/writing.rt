@@ -252,7 +252,7 @@ pub fn put_item(alloc: Global, out: &mut Vec<u8>, item: &Item) -> Result<(), All
     }
 }
 
-/// What is written of a choice is read again as that choice, once; torn bytes are left out here.
+/// What is written of a choice is read again as that choice, once.
 #[tactic(auto, using(crate::proofs::RoundLaws::choice_again))]
 pub fn choices_read_again()
     ensures { (choice : Choice) → HasLine choice → line_of choices_table (words (choice_text choice)) ≡ Ok (Once choice) }

@@ -1,0 +1,15 @@
+pub mod Events
+pub mod Holding
+pub mod Taking
+pub mod Reserving
+pub mod Notices
+pub mod Looking
+pub mod Deciding
+pub mod Restarting
+pub mod Terminals
+pub mod Working
+pub mod Sending
+pub mod Rows
+pub mod Next
+pub mod Answers
+pub mod Accepting

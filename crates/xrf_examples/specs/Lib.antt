@@ -1,0 +1,15 @@
+pub mod Making
+pub mod OrdinaryUnitOfWork
+pub mod StopInTheOpeningWriteOfACommit
+pub mod StopInTheOpeningWriteOfACommitThatLeavesItClosed
+pub mod RecordPutTwiceAndTwoStops
+pub mod ASecondActiveIsRefused
+pub mod AStartThatIsOvertakenByANormalSignOff
+pub mod ThePausedActive
+pub mod TheOperatorIsAsked
+pub mod AGarbageBodyThatIsNotOpened
+pub mod AFullRingAndAnUnsentMessage
+pub mod TheAlternateIsDropped
+pub mod AFailingDeviceInTheOpeningWriteOfACommit
+pub mod MigrationOfAPairToFormat2
+pub mod UsersAtATakeoverAreSignedOffByForce

@@ -1,0 +1,10 @@
+pub mod Torn
+pub mod Scenario
+pub mod Landing
+pub mod Words
+pub mod Devices
+pub mod Jobs
+pub mod Acts
+pub mod Refusals
+pub mod Entries
+pub mod Runs

@@ -1,0 +1,37 @@
+-- Throughs, takeovers, and updates.
+use Rattle.std.specs.Prelude.{ℕ, ◌==◌, Bool, true, false, ◌&&◌, not, List, [], ◌∷◌}
+use Rattle.xrf_ctl.specs.Control.{ControlRecord}
+use Rattle.xrf_cavm.specs.Record.{inc_of_owner, is_alt}
+use Rattle.xrf_trace.specs.declared.entry.Entry.{Entry}
+use Rattle.xrf_trace.specs.declared.entry.Act.{Act}
+use Rattle.xrf_trace.specs.declared.entry.Act.TheVariants as act
+use Rattle.xrf_trace.specs.declared.entry.Land.{Land}
+use Rattle.xrf_trace.specs.Landing.{lands}
+use Rattle.xrf_trace.specs.Devices.{control}
+
+-- a through: a landed CTLWRITE whose owner's incarnation is not the owner's incarnation before it
+abbrev pub changes_owner : ControlRecord → Act → Bool
+changes_owner before (act.CtlWrite written) = not (inc_of_owner written.owner == inc_of_owner before.owner)
+changes_owner before _ = false
+
+abbrev pub is_through : List Entry → Entry → Bool
+is_through t e = lands e.land && changes_owner (control t) e.act
+
+-- a takeover: a through whose writer was the alternate before it
+abbrev pub is_takeover : List Entry → Entry → Bool
+is_takeover t e = is_through t e && is_alt (control t) e.inc
+
+-- an update: a write of a message slot, the log, a keypoint or the file, whatever of it landed
+abbrev pub is_update : Act → Bool
+is_update (act.MsgClose k) = true
+is_update (act.MsgBody k message) = true
+is_update (act.MsgOpen k message) = true
+is_update (act.LogClose p) = true
+is_update (act.LogBody p rec) = true
+is_update (act.LogOpen p rec) = true
+is_update (act.KpClose k) = true
+is_update (act.KpBody k keypoint) = true
+is_update (act.KpOpen k keypoint) = true
+is_update (act.FileWrite unit k value) = true
+is_update (act.Undo k before) = true
+is_update _ = false

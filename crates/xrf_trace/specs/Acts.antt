@@ -101,3 +101,16 @@ is_failing_read _ = false
 -- the acts that may fail
 abbrev pub may_fail : Act → Bool
 may_fail a = is_failing_read a || is_some (torn_size a)
+
+-- an entry that is an act of its job: no choice that reaches the job, and no stop without an act
+abbrev pub is_act : Act → Bool
+is_act act.StartActive = false
+is_act act.StartStandby = false
+is_act act.Abend = false
+is_act (act.Reply go) = false
+is_act (act.Cebt command reply) = false
+is_act (act.Exit said) = false
+is_act act.NoAct = false
+is_act act.Tick = false
+is_act (act.Confirm n) = false
+is_act _ = true

@@ -23,3 +23,4 @@ pub mod ThroughByProof
 pub mod SilentOnceSeen
 pub mod FormatByLevel
 pub mod Safe
+pub mod Laws

@@ -19,6 +19,7 @@ use Rattle.xrf_trace.specs.declared.entry.Act.{Act}
 use Rattle.xrf_trace.specs.declared.entry.Act.TheVariants as act
 use Rattle.xrf_trace.specs.Scenario.{Scen, settings}
 use Rattle.xrf_trace.specs.Jobs.{known_of}
+use Rattle.xrf_trace.specs.Acts.{is_act}
 use Rattle.xrf_trace.specs.Each.{Each, Where, AtSite, InPlace}
 
 -- each DECIDE of an alternate that is not waiting is its cause
@@ -40,19 +41,6 @@ made_since_read (Replied go at ∷ h) = made_since_read h
 made_since_read (Commanded command at ∷ h) = made_since_read h
 made_since_read (Exited answer at ∷ h) = made_since_read h
 made_since_read (_ ∷ h) = made_since_read h + 1
-
--- an entry that is an act of its job: no choice that reaches the job, and no stop without an act
-abbrev pub is_act : Act → Bool
-is_act act.StartActive = false
-is_act act.StartStandby = false
-is_act act.Abend = false
-is_act (act.Reply go) = false
-is_act (act.Cebt command reply) = false
-is_act (act.Exit said) = false
-is_act act.NoAct = false
-is_act act.Tick = false
-is_act (act.Confirm n) = false
-is_act _ = true
 
 -- it has made a CTLREAD since its last DECIDE
 abbrev pub has_read_since_decision : List Event → Bool

@@ -24,7 +24,8 @@ use Rattle.xrf_trace.specs.Scenario.{Scen, settings}
 use Rattle.xrf_trace.specs.Words.{confirmed}
 use Rattle.xrf_trace.specs.Devices.{control}
 use Rattle.xrf_trace.specs.Throughs.{is_through, is_takeover}
-use Rattle.xrf_trace.specs.StartByCause.{DecidesSo, made_since_read, is_act}
+use Rattle.xrf_trace.specs.StartByCause.{DecidesSo, made_since_read}
+use Rattle.xrf_trace.specs.Acts.{is_act}
 use Rattle.xrf_trace.specs.Each.{Each, Where, AtSite, InPlace}
 
 -- the owner of a record may run: it is there, Running, and not confirmed

@@ -4,8 +4,10 @@
 
 pub mod choice;
 pub mod entry;
+mod laws;
 pub mod torn;
 
 pub use choice::{Choice, Landing};
 pub use entry::{Act, Entry, Land, Refused, Who};
+pub use laws::{journals_tell_choices, refusals_change_nothing, runs_are_runs};
 pub use torn::TornBytes;

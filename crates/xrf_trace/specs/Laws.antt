@@ -1,0 +1,39 @@
+-- What holds of every run.
+use Rattle.std.specs.Prelude.{◌≡◌, ℕ, List, [], ◌∷◌, length, take, slice_get, Option, Some, None, Result, Ok, Err, IfOk}
+use Rattle.xrf_trace.specs.declared.choice.Choice.{Choice}
+use Rattle.xrf_trace.specs.declared.choice.Choice.TheVariants as choice
+use Rattle.xrf_trace.specs.declared.entry.Entry.{Entry}
+use Rattle.xrf_trace.specs.Scenario.{Scen}
+use Rattle.xrf_trace.specs.Words.{now}
+use Rattle.xrf_trace.specs.Refusals.{refusal}
+use Rattle.xrf_trace.specs.Runs.{Refusal, run, IsRun}
+use Rattle.xrf_trace.specs.Journal.{choices_of}
+use Rattle.xrf_trace.specs.Each.{Each}
+
+-- the trace of a run of choices is that of a run, with an entry for each choice
+abbrev pub RunsAreRuns : Type 0
+RunsAreRuns = (s : Scen) (cs : List Choice) → IfOk (run s cs) (λ t. IsRun s t × (length t ≡ length cs))
+
+-- the tick of an entry is the number of TICKs up to and with it
+abbrev pub TicksAreCounted : Type 0
+TicksAreCounted = (s : Scen) (t : List Entry) → IsRun s t → Each (λ before e. e.tick ≡ now (e ∷ before)) t
+
+-- TICK is always accepted
+abbrev pub TickIsAccepted : Type 0
+TickIsAccepted = (s : Scen) (t : List Entry) → refusal s t choice.Tick ≡ None
+
+-- A refused choice adds nothing: where a run is refused at a place, the choices before it run to a trace, and
+-- the choice at the place has that refusal there.
+pub record IsFirstRefused (s : Scen) (cs : List Choice) (r : Refusal) : Type 0 where
+  pub trace : List Entry
+  pub refused : Choice
+  pub before : run s (take r.place cs) ≡ Ok trace
+  pub there : slice_get cs r.place ≡ Some refused
+  pub reason : refusal s trace refused ≡ Some r.reason
+
+abbrev pub RefusalsAreFirst : Type 0
+RefusalsAreFirst = (s : Scen) (cs : List Choice) (r : Refusal) → run s cs ≡ Err r → IsFirstRefused s cs r
+
+-- the journal of a run determines its choices
+abbrev pub JournalsTell : Type 0
+JournalsTell = (s : Scen) (cs : List Choice) → IfOk (run s cs) (λ t. choices_of t ≡ cs)

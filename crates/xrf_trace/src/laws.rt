@@ -1,0 +1,22 @@
+//! Laws of runs.
+
+ghost use Rattle.xrf_trace.specs.Laws.{RunsAreRuns, TicksAreCounted, TickIsAccepted, RefusalsAreFirst, JournalsTell};
+
+/// The trace that a list of choices comes to is that of a run, with an entry for each choice. The tick of an
+/// entry is the number of ticks up to and with it.
+pub fn runs_are_runs()
+    ensures runs { RunsAreRuns }
+    ensures ticks { TicksAreCounted }
+{}
+
+/// A tick is always accepted. A refused choice adds nothing: the choices before it run to the trace at which it
+/// is refused.
+pub fn refusals_change_nothing()
+    ensures tick { TickIsAccepted }
+    ensures first { RefusalsAreFirst }
+{}
+
+/// The journal of a run determines its choices.
+pub fn journals_tell_choices()
+    ensures { JournalsTell }
+{}

@@ -1,4 +1,4 @@
--- The migration of a pair to format 2.
+-- Migration of a pair to format 2.
 use Rattle.std.specs.Prelude.{ℕ, Bool, true, false, List, [], ◌∷◌, ◌++◌, replicate, codes, Option, Some, None}
 use Rattle.xrf_base.specs.declared.site.Site.TheVariants as site
 use Rattle.xrf_base.specs.declared.site.Takeovr.TheVariants as takeovr

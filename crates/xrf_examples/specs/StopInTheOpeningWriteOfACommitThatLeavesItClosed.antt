@@ -1,4 +1,4 @@
--- A stop in the opening write of a commit that leaves it closed, and its restart.
+-- Stop in the opening write of a commit that leaves it closed.
 use Rattle.std.specs.Prelude.{ℕ, Bool, true, false, List, [], ◌∷◌, ◌++◌, replicate, codes, Option, Some, None}
 use Rattle.xrf_base.specs.declared.site.Site.TheVariants as site
 use Rattle.xrf_base.specs.declared.site.Takeovr.TheVariants as takeovr

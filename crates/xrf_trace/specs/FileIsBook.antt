@@ -1,5 +1,6 @@
 -- File is the book: at each RESTARTED the file is the book, and no unit is in flight.
-use Rattle.std.specs.Prelude.{◌≡◌, ℕ, ◌≤◌, Bool, true, false, List, [], ◌∷◌}
+use Rattle.std.specs.Prelude.{◌≡◌, ℕ, ◌≤◌, Bool, true, false, List, [], ◌∷◌, map}
+use Rattle.std.specs.List.{range_with_len}
 use Rattle.xrf_base.specs.Values.{slot_of}
 use Rattle.xrf_log.specs.Flight.{flight}
 use Rattle.xrf_trace.specs.declared.entry.Entry.{Entry}
@@ -15,9 +16,17 @@ abbrev pub is_restart : Act → Bool
 is_restart act.Restarted = true
 is_restart _ = false
 
--- each slot of the file is the slot of the book
+-- the record numbers, 1 to FILE
+abbrev pub numbers : Scen → List ℕ
+numbers s = range_with_len 1 s.limits.file
+
+-- the slot of each record of the file is the slot of the book
 abbrev pub IsBook : Scen → List Entry → Type 0
-IsBook s t = (k : ℕ) → 1 ≤ k → k ≤ s.limits.file → image s t k ≡ slot_of (book s t k)
+IsBook s t = map (image s t) (numbers s) ≡ map (λ k. slot_of (book s t k)) (numbers s)
+
+-- the same, said of a record
+abbrev pub IsBookAt : Scen → List Entry → Type 0
+IsBookAt s t = (k : ℕ) → 1 ≤ k → k ≤ s.limits.file → image s t k ≡ slot_of (book s t k)
 
 abbrev pub RestartsAtBook : Scen → List Entry → Entry → Type 0
 RestartsAtBook s t e = Where (is_restart e.act) (IsBook s t × (flight (log t) ≡ []))

@@ -1,5 +1,5 @@
 -- What holds of every run.
-use Rattle.std.specs.Prelude.{◌≡◌, ℕ, List, [], ◌∷◌, length, take, slice_get, Option, Some, None, Result, Ok, Err, IfOk}
+use Rattle.std.specs.Prelude.{◌≡◌, ◌↔◌, ℕ, List, [], ◌∷◌, length, take, slice_get, Option, Some, None, Result, Ok, Err, IfOk}
 use Rattle.xrf_trace.specs.declared.choice.Choice.{Choice}
 use Rattle.xrf_trace.specs.declared.choice.Choice.TheVariants as choice
 use Rattle.xrf_trace.specs.declared.entry.Entry.{Entry}
@@ -9,6 +9,7 @@ use Rattle.xrf_trace.specs.Refusals.{refusal}
 use Rattle.xrf_trace.specs.Runs.{Refusal, run, IsRun}
 use Rattle.xrf_trace.specs.Journal.{choices_of}
 use Rattle.xrf_trace.specs.Each.{Each}
+use Rattle.xrf_trace.specs.FileIsBook.{IsBook, IsBookAt}
 
 -- the trace of a run of choices is that of a run, with an entry for each choice
 abbrev pub RunsAreRuns : Type 0
@@ -37,3 +38,7 @@ RefusalsAreFirst = (s : Scen) (cs : List Choice) (r : Refusal) → run s cs ≡ 
 -- the journal of a run determines its choices
 abbrev pub JournalsTell : Type 0
 JournalsTell = (s : Scen) (cs : List Choice) → IfOk (run s cs) (λ t. choices_of t ≡ cs)
+
+-- the file is the book as a list exactly where it is the book at each record
+abbrev pub BooksAreAtEach : Type 0
+BooksAreAtEach = (s : Scen) (t : List Entry) → IsBook s t ↔ IsBookAt s t

@@ -1,6 +1,6 @@
 //! Laws of runs.
 
-ghost use Rattle.xrf_trace.specs.Laws.{RunsAreRuns, TicksAreCounted, TickIsAccepted, RefusalsAreFirst, JournalsTell};
+ghost use Rattle.xrf_trace.specs.Laws.{RunsAreRuns, TicksAreCounted, TickIsAccepted, RefusalsAreFirst, JournalsTell, BooksAreAtEach};
 
 /// The trace that a list of choices comes to is that of a run, with an entry for each choice. The tick of an
 /// entry is the number of ticks up to and with it.
@@ -19,4 +19,9 @@ pub fn refusals_change_nothing()
 /// The journal of a run determines its choices.
 pub fn journals_tell_choices()
     ensures { JournalsTell }
+{}
+
+/// The file is the book, said of all its records at once, exactly where it is said of each.
+pub fn books_are_at_each()
+    ensures { BooksAreAtEach }
 {}

@@ -1,0 +1,127 @@
+-- A failing read of a message slot drops the alternate.
+use Rattle.std.specs.Prelude.{ℕ, Bool, true, false, List, [], ◌∷◌, ◌++◌, replicate, codes, Option, Some, None}
+use Rattle.xrf_base.specs.declared.site.Site.TheVariants as site
+use Rattle.xrf_base.specs.declared.site.Takeovr.TheVariants as takeovr
+use Rattle.xrf_base.specs.declared.items.Item.{Item}
+use Rattle.xrf_base.specs.declared.limits.Limits.{Limits}
+use Rattle.xrf_ctl.specs.declared.parts.Level.TheVariants as level
+use Rattle.xrf_ctl.specs.declared.parts.OwnerState.TheVariants as state
+use Rattle.xrf_ctl.specs.Control.{of_parts}
+use Rattle.xrf_ctl.specs.Signal.{of_numbers}
+use Rattle.xrf_cavm.specs.declared.decisions.Why.TheVariants as why
+use Rattle.xrf_cavm.specs.declared.decisions.Decision.TheVariants as decision
+use Rattle.xrf_cavm.specs.declared.decisions.Acting.TheVariants as acting
+use Rattle.xrf_cavm.specs.declared.decisions.Decided.TheVariants as decided
+use Rattle.xrf_history.specs.declared.want.EndWhy.TheVariants as end
+use Rattle.xrf_trace.specs.declared.choice.Choice.{Choice}
+use Rattle.xrf_trace.specs.declared.choice.Choice.TheVariants as choice
+use Rattle.xrf_trace.specs.declared.choice.Landing.TheVariants as landing
+use Rattle.xrf_trace.specs.declared.entry.Act.TheVariants as act
+use Rattle.xrf_trace.specs.declared.entry.Entry.{Entry}
+use Rattle.xrf_trace.specs.declared.entry.Land.TheVariants as land
+use Rattle.xrf_trace.specs.declared.entry.Who.TheVariants as who
+use Rattle.xrf_trace.specs.Scenario.{Scen}
+use Rattle.xrf_examples.specs.Making.{entry_of}
+
+abbrev pub scenario : Scen
+scenario = record {
+      limits = record { log = 64; ring = 16; file = 16 };
+      takeovr = takeovr.Manual;
+      adi = 30;
+      pdi = 30;
+      level_a = level.One;
+      level_b = level.One;
+      force = false;
+      clt_a = 0;
+      clt_b = 0;
+      records = [];
+      work_a = [];
+      work_b = []
+    }
+abbrev pub choices : List Choice
+choices =
+    choice.StartActive site.A ∷
+    choice.Step site.A ∷
+    choice.Step site.A ∷
+    choice.Step site.A ∷
+    choice.Step site.A ∷
+    choice.Step site.A ∷
+    choice.Step site.A ∷
+    choice.Step site.A ∷
+    choice.Step site.A ∷
+    choice.Step site.A ∷
+    choice.Step site.A ∷
+    choice.Step site.A ∷
+    choice.StartStandby site.B ∷
+    choice.Step site.B ∷
+    choice.Step site.B ∷
+    choice.Step site.B ∷
+    choice.Step site.B ∷
+    choice.Step site.B ∷
+    choice.Step site.B ∷
+    choice.Step site.B ∷
+    choice.Step site.B ∷
+    choice.Step site.B ∷
+    choice.Step site.B ∷
+    choice.Tick ∷
+    choice.Step site.A ∷
+    choice.Step site.A ∷
+    choice.Step site.A ∷
+    choice.Step site.A ∷
+    choice.Step site.A ∷
+    choice.Fail site.A landing.Nothing ∷
+    choice.Step site.A ∷
+    choice.Step site.A ∷
+    choice.Step site.A ∷
+    choice.Step site.A ∷
+    choice.Step site.B ∷
+    choice.Step site.B ∷
+    choice.Step site.B ∷
+    choice.Step site.B ∷
+    choice.Step site.B ∷
+    choice.Step site.B ∷
+    []
+
+abbrev pub trace : List Entry
+trace =
+    entry_of 1 who.B 2 (act.Ended end.Dropped) land.Full ∷
+    entry_of 1 who.B 2 (act.Decide (decided.Alternate (decision.Leave why.Dropped))) land.Full ∷
+    entry_of 1 who.B 2 (act.Look2) land.Full ∷
+    entry_of 1 who.B 2 (act.Look1) land.Full ∷
+    entry_of 1 who.B 2 (act.Signal2 (of_numbers 2 2 0)) land.Full ∷
+    entry_of 1 who.B 2 (act.Signal1 (of_numbers 2 2 0)) land.Full ∷
+    entry_of 1 who.A 1 (act.Release) land.Full ∷
+    entry_of 1 who.A 1 (act.CtlWrite (of_parts 1 2 (Some (record { inc = 1; site = site.A; state = state.Running })) None None)) land.Full ∷
+    entry_of 1 who.A 1 (act.CtlRead) land.Full ∷
+    entry_of 1 who.A 1 (act.Reserve) land.Full ∷
+    entry_of 1 who.A 1 (act.MsgRead 0) (land.Fail landing.Nothing) ∷
+    entry_of 1 who.A 1 (act.Decide (decided.Owner (acting.CatchUp 2))) land.Full ∷
+    entry_of 1 who.A 1 (act.Look2) land.Full ∷
+    entry_of 1 who.A 1 (act.Look1) land.Full ∷
+    entry_of 1 who.A 1 (act.Signal2 (of_numbers 1 2 0)) land.Full ∷
+    entry_of 1 who.A 1 (act.Signal1 (of_numbers 1 2 0)) land.Full ∷
+    entry_of 1 who.Env 0 (act.Tick) land.Full ∷
+    entry_of 0 who.B 2 (act.MsgRead 0) land.Full ∷
+    entry_of 0 who.B 2 (act.Decide (decided.Alternate decision.Nothing)) land.Full ∷
+    entry_of 0 who.B 2 (act.Look2) land.Full ∷
+    entry_of 0 who.B 2 (act.Look1) land.Full ∷
+    entry_of 0 who.B 2 (act.Signal2 (of_numbers 2 1 0)) land.Full ∷
+    entry_of 0 who.B 2 (act.Signal1 (of_numbers 2 1 0)) land.Full ∷
+    entry_of 0 who.B 2 (act.Release) land.Full ∷
+    entry_of 0 who.B 2 (act.CtlWrite (of_parts 1 2 (Some (record { inc = 1; site = site.A; state = state.Running })) (Some (record { inc = 2; site = site.B })) None)) land.Full ∷
+    entry_of 0 who.B 0 (act.CtlRead) land.Full ∷
+    entry_of 0 who.B 0 (act.Reserve) land.Full ∷
+    entry_of 0 who.B 0 (act.StartStandby) land.Full ∷
+    entry_of 0 who.A 1 (act.Restarted) land.Full ∷
+    entry_of 0 who.A 1 (act.LogRead 0) land.Full ∷
+    entry_of 0 who.A 1 (act.Decide (decided.Owner acting.Nothing)) land.Full ∷
+    entry_of 0 who.A 1 (act.Look2) land.Full ∷
+    entry_of 0 who.A 1 (act.Look1) land.Full ∷
+    entry_of 0 who.A 1 (act.Signal2 (of_numbers 1 1 0)) land.Full ∷
+    entry_of 0 who.A 1 (act.Signal1 (of_numbers 1 1 0)) land.Full ∷
+    entry_of 0 who.A 1 (act.Release) land.Full ∷
+    entry_of 0 who.A 1 (act.CtlWrite (of_parts 1 1 (Some (record { inc = 1; site = site.A; state = state.Running })) None None)) land.Full ∷
+    entry_of 0 who.A 0 (act.CtlRead) land.Full ∷
+    entry_of 0 who.A 0 (act.Reserve) land.Full ∷
+    entry_of 0 who.A 0 (act.StartActive) land.Full ∷
+    []

@@ -1,0 +1,60 @@
+-- Granting writes that are stopped.
+use Rattle.std.specs.Prelude.{ℕ, Bool, true, false, List, [], ◌∷◌, ◌++◌, replicate, codes, Option, Some, None}
+use Rattle.xrf_base.specs.declared.site.Site.TheVariants as site
+use Rattle.xrf_base.specs.declared.site.Takeovr.TheVariants as takeovr
+use Rattle.xrf_base.specs.declared.items.Item.{Item}
+use Rattle.xrf_base.specs.declared.limits.Limits.{Limits}
+use Rattle.xrf_ctl.specs.declared.parts.Level.TheVariants as level
+use Rattle.xrf_ctl.specs.declared.parts.OwnerState.TheVariants as state
+use Rattle.xrf_ctl.specs.Control.{of_parts}
+use Rattle.xrf_ctl.specs.Signal.{of_numbers}
+use Rattle.xrf_trace.specs.declared.choice.Choice.{Choice}
+use Rattle.xrf_trace.specs.declared.choice.Choice.TheVariants as choice
+use Rattle.xrf_trace.specs.declared.choice.Landing.TheVariants as landing
+use Rattle.xrf_trace.specs.declared.entry.Act.TheVariants as act
+use Rattle.xrf_trace.specs.declared.entry.Entry.{Entry}
+use Rattle.xrf_trace.specs.declared.entry.Land.TheVariants as land
+use Rattle.xrf_trace.specs.declared.entry.Who.TheVariants as who
+use Rattle.xrf_trace.specs.Scenario.{Scen}
+use Rattle.xrf_examples.specs.Making.{entry_of}
+
+abbrev pub scenario : Scen
+scenario = record {
+      limits = record { log = 64; ring = 16; file = 16 };
+      takeovr = takeovr.Manual;
+      adi = 30;
+      pdi = 30;
+      level_a = level.One;
+      level_b = level.One;
+      force = false;
+      clt_a = 0;
+      clt_b = 0;
+      records = [];
+      work_a = [];
+      work_b = []
+    }
+abbrev pub choices : List Choice
+choices =
+    choice.StartActive site.A ∷
+    choice.Step site.A ∷
+    choice.Step site.A ∷
+    choice.Stop site.A landing.Nothing ∷
+    choice.StartActive site.A ∷
+    choice.Step site.A ∷
+    choice.Step site.A ∷
+    choice.Stop site.A landing.All ∷
+    choice.Confirm 1 ∷
+    []
+
+abbrev pub trace : List Entry
+trace =
+    entry_of 0 who.Env 0 (act.Confirm 1) land.Full ∷
+    entry_of 0 who.A 1 (act.CtlWrite (of_parts 1 1 (Some (record { inc = 1; site = site.A; state = state.Running })) None None)) (land.Stop landing.All) ∷
+    entry_of 0 who.A 0 (act.CtlRead) land.Full ∷
+    entry_of 0 who.A 0 (act.Reserve) land.Full ∷
+    entry_of 0 who.A 0 (act.StartActive) land.Full ∷
+    entry_of 0 who.A 1 (act.CtlWrite (of_parts 1 1 (Some (record { inc = 1; site = site.A; state = state.Running })) None None)) (land.Stop landing.Nothing) ∷
+    entry_of 0 who.A 0 (act.CtlRead) land.Full ∷
+    entry_of 0 who.A 0 (act.Reserve) land.Full ∷
+    entry_of 0 who.A 0 (act.StartActive) land.Full ∷
+    []

@@ -1,0 +1,107 @@
+-- Item answers of units.
+use Rattle.std.specs.Prelude.{ℕ, Bool, true, false, List, [], ◌∷◌, ◌++◌, replicate, codes, Option, Some, None}
+use Rattle.xrf_base.specs.declared.site.Site.TheVariants as site
+use Rattle.xrf_base.specs.declared.site.Takeovr.TheVariants as takeovr
+use Rattle.xrf_base.specs.declared.items.Item.{Item}
+use Rattle.xrf_base.specs.declared.items.Item.TheVariants as items
+use Rattle.xrf_base.specs.declared.limits.Limits.{Limits}
+use Rattle.xrf_ctl.specs.declared.parts.Level.TheVariants as level
+use Rattle.xrf_ctl.specs.declared.parts.OwnerState.TheVariants as state
+use Rattle.xrf_ctl.specs.Control.{of_parts}
+use Rattle.xrf_ctl.specs.Signal.{of_numbers}
+use Rattle.xrf_cavm.specs.declared.decisions.Acting.TheVariants as acting
+use Rattle.xrf_cavm.specs.declared.decisions.Decided.TheVariants as decided
+use Rattle.xrf_logrec.specs.declared.records.LogRec.TheVariants as rec
+use Rattle.xrf_trace.specs.declared.choice.Choice.{Choice}
+use Rattle.xrf_trace.specs.declared.choice.Choice.TheVariants as choice
+use Rattle.xrf_trace.specs.declared.entry.Act.TheVariants as act
+use Rattle.xrf_trace.specs.declared.entry.Entry.{Entry}
+use Rattle.xrf_trace.specs.declared.entry.Land.TheVariants as land
+use Rattle.xrf_trace.specs.declared.entry.Who.TheVariants as who
+use Rattle.xrf_trace.specs.Scenario.{Scen}
+use Rattle.xrf_examples.specs.Making.{entry_of}
+
+abbrev pub scenario : Scen
+scenario = record {
+      limits = record { log = 64; ring = 16; file = 4 };
+      takeovr = takeovr.Manual;
+      adi = 30;
+      pdi = 30;
+      level_a = level.One;
+      level_b = level.One;
+      force = false;
+      clt_a = 0;
+      clt_b = 0;
+      records = [];
+      work_a = items.Begin (codes "U1") ∷ items.Begin (codes "U2") ∷ items.Put (codes "U1") 1 (codes "X") ∷ items.Put (codes "U2") 1 (codes "Y") ∷ items.Get (codes "U2") 1 ∷ items.Put (codes "U2") 9 (codes "Q") ∷ items.Roll (codes "U1") ∷ items.Get (codes "U2") 1 ∷ items.Begin (codes "U2") ∷ items.Commit (codes "U2") ∷ items.Commit (codes "U1") ∷ [];
+      work_b = []
+    }
+abbrev pub choices : List Choice
+choices =
+    choice.StartActive site.A ∷
+    choice.Step site.A ∷
+    choice.Step site.A ∷
+    choice.Step site.A ∷
+    choice.Step site.A ∷
+    choice.Step site.A ∷
+    choice.Step site.A ∷
+    choice.Step site.A ∷
+    choice.Step site.A ∷
+    choice.Step site.A ∷
+    choice.Step site.A ∷
+    choice.Step site.A ∷
+    choice.Step site.A ∷
+    choice.Step site.A ∷
+    choice.Step site.A ∷
+    choice.Step site.A ∷
+    choice.Step site.A ∷
+    choice.Step site.A ∷
+    choice.Step site.A ∷
+    choice.Step site.A ∷
+    choice.Step site.A ∷
+    choice.Step site.A ∷
+    choice.Step site.A ∷
+    choice.Step site.A ∷
+    choice.Step site.A ∷
+    choice.Step site.A ∷
+    choice.Step site.A ∷
+    choice.Step site.A ∷
+    choice.Step site.A ∷
+    choice.Step site.A ∷
+    choice.Step site.A ∷
+    []
+
+abbrev pub trace : List Entry
+trace =
+    entry_of 0 who.A 1 (act.Item 11) land.Full ∷
+    entry_of 0 who.A 1 (act.Item 10) land.Full ∷
+    entry_of 0 who.A 1 (act.Item 9) land.Full ∷
+    entry_of 0 who.A 1 (act.FileRead 1) land.Full ∷
+    entry_of 0 who.A 1 (act.Item 8) land.Full ∷
+    entry_of 0 who.A 1 (act.LogOpen 1 (rec.Backout (record { inc = 1; serial = 1 }))) land.Full ∷
+    entry_of 0 who.A 1 (act.LogBody 1 (rec.Backout (record { inc = 1; serial = 1 }))) land.Full ∷
+    entry_of 0 who.A 1 (act.Undo 1 (replicate 32 0)) land.Full ∷
+    entry_of 0 who.A 1 (act.Item 7) land.Full ∷
+    entry_of 0 who.A 1 (act.Item 6) land.Full ∷
+    entry_of 0 who.A 1 (act.Item 5) land.Full ∷
+    entry_of 0 who.A 1 (act.Item 4) land.Full ∷
+    entry_of 0 who.A 1 (act.FileWrite (record { inc = 1; serial = 1 }) 1 (codes "X")) land.Full ∷
+    entry_of 0 who.A 1 (act.LogOpen 0 (rec.Put (record { inc = 1; serial = 1 }) 1 (replicate 32 0))) land.Full ∷
+    entry_of 0 who.A 1 (act.LogBody 0 (rec.Put (record { inc = 1; serial = 1 }) 1 (replicate 32 0))) land.Full ∷
+    entry_of 0 who.A 1 (act.FileRead 1) land.Full ∷
+    entry_of 0 who.A 1 (act.Item 3) land.Full ∷
+    entry_of 0 who.A 1 (act.Item 2) land.Full ∷
+    entry_of 0 who.A 1 (act.Item 1) land.Full ∷
+    entry_of 0 who.A 1 (act.Restarted) land.Full ∷
+    entry_of 0 who.A 1 (act.LogRead 0) land.Full ∷
+    entry_of 0 who.A 1 (act.Decide (decided.Owner acting.Nothing)) land.Full ∷
+    entry_of 0 who.A 1 (act.Look2) land.Full ∷
+    entry_of 0 who.A 1 (act.Look1) land.Full ∷
+    entry_of 0 who.A 1 (act.Signal2 (of_numbers 1 1 0)) land.Full ∷
+    entry_of 0 who.A 1 (act.Signal1 (of_numbers 1 1 0)) land.Full ∷
+    entry_of 0 who.A 1 (act.Release) land.Full ∷
+    entry_of 0 who.A 1 (act.CtlWrite (of_parts 1 1 (Some (record { inc = 1; site = site.A; state = state.Running })) None None)) land.Full ∷
+    entry_of 0 who.A 0 (act.CtlRead) land.Full ∷
+    entry_of 0 who.A 0 (act.Reserve) land.Full ∷
+    entry_of 0 who.A 0 (act.StartActive) land.Full ∷
+    []

@@ -1,0 +1,311 @@
+-- Threads run a plan to a takeover.
+use Rattle.std.specs.Prelude.{ℕ, Bool, true, false, List, [], ◌∷◌, ◌++◌, replicate, codes, Option, Some, None}
+use Rattle.xrf_base.specs.declared.site.Site.TheVariants as site
+use Rattle.xrf_base.specs.declared.site.Takeovr.TheVariants as takeovr
+use Rattle.xrf_base.specs.declared.items.Item.{Item}
+use Rattle.xrf_base.specs.declared.items.Item.TheVariants as items
+use Rattle.xrf_base.specs.declared.limits.Limits.{Limits}
+use Rattle.xrf_ctl.specs.declared.parts.Level.TheVariants as level
+use Rattle.xrf_ctl.specs.declared.parts.OwnerState.TheVariants as state
+use Rattle.xrf_ctl.specs.declared.parts.Cause.TheVariants as cause
+use Rattle.xrf_ctl.specs.Control.{of_parts}
+use Rattle.xrf_ctl.specs.Signal.{of_numbers}
+use Rattle.xrf_cavm.specs.declared.decisions.Decision.TheVariants as decision
+use Rattle.xrf_cavm.specs.declared.decisions.Waiting.TheVariants as waiting
+use Rattle.xrf_cavm.specs.declared.decisions.Acting.TheVariants as acting
+use Rattle.xrf_cavm.specs.declared.decisions.Decided.TheVariants as decided
+use Rattle.xrf_msg.specs.declared.messages.Message.TheVariants as message
+use Rattle.xrf_history.specs.declared.want.EndWhy.TheVariants as end
+use Rattle.xrf_trace.specs.declared.choice.Choice.{Choice}
+use Rattle.xrf_trace.specs.declared.choice.Choice.TheVariants as choice
+use Rattle.xrf_trace.specs.declared.entry.Act.TheVariants as act
+use Rattle.xrf_trace.specs.declared.entry.Entry.{Entry}
+use Rattle.xrf_trace.specs.declared.entry.Land.TheVariants as land
+use Rattle.xrf_trace.specs.declared.entry.Who.TheVariants as who
+use Rattle.xrf_trace.specs.Scenario.{Scen}
+use Rattle.xrf_examples.specs.Making.{entry_of}
+
+abbrev pub scenario : Scen
+scenario = record {
+      limits = record { log = 64; ring = 16; file = 16 };
+      takeovr = takeovr.Auto;
+      adi = 30;
+      pdi = 30;
+      level_a = level.One;
+      level_b = level.One;
+      force = false;
+      clt_a = 0;
+      clt_b = 0;
+      records = [];
+      work_a = items.Logon (codes "T1") 1 ∷ items.Logon (codes "T2") 2 ∷ items.Logon (codes "T3") 3 ∷ [];
+      work_b = []
+    }
+abbrev pub choices : List Choice
+choices =
+    choice.StartActive site.A ∷
+    choice.Step site.A ∷
+    choice.Step site.A ∷
+    choice.Step site.A ∷
+    choice.Step site.A ∷
+    choice.Step site.A ∷
+    choice.Step site.A ∷
+    choice.Step site.A ∷
+    choice.Step site.A ∷
+    choice.Step site.A ∷
+    choice.Step site.A ∷
+    choice.Step site.A ∷
+    choice.Step site.A ∷
+    choice.Step site.A ∷
+    choice.Step site.A ∷
+    choice.Tick ∷
+    choice.Step site.A ∷
+    choice.StartStandby site.B ∷
+    choice.Step site.A ∷
+    choice.Step site.B ∷
+    choice.Step site.A ∷
+    choice.Step site.B ∷
+    choice.Step site.A ∷
+    choice.Step site.B ∷
+    choice.Step site.A ∷
+    choice.Step site.B ∷
+    choice.Step site.B ∷
+    choice.Step site.B ∷
+    choice.Step site.B ∷
+    choice.Step site.B ∷
+    choice.Step site.B ∷
+    choice.Step site.B ∷
+    choice.Tick ∷
+    choice.Step site.A ∷
+    choice.Step site.B ∷
+    choice.Step site.A ∷
+    choice.Step site.B ∷
+    choice.Step site.A ∷
+    choice.Step site.B ∷
+    choice.Step site.A ∷
+    choice.Step site.B ∷
+    choice.Step site.A ∷
+    choice.Step site.B ∷
+    choice.Step site.A ∷
+    choice.Step site.B ∷
+    choice.Step site.A ∷
+    choice.Step site.A ∷
+    choice.Step site.A ∷
+    choice.Step site.A ∷
+    choice.Step site.A ∷
+    choice.Step site.A ∷
+    choice.Step site.A ∷
+    choice.Step site.A ∷
+    choice.Step site.A ∷
+    choice.Step site.A ∷
+    choice.Step site.A ∷
+    choice.Tick ∷
+    choice.Step site.A ∷
+    choice.Step site.B ∷
+    choice.Abend site.A ∷
+    choice.Step site.A ∷
+    choice.Step site.B ∷
+    choice.Step site.A ∷
+    choice.Step site.B ∷
+    choice.Step site.A ∷
+    choice.Step site.B ∷
+    choice.Step site.A ∷
+    choice.Step site.B ∷
+    choice.Step site.A ∷
+    choice.Step site.B ∷
+    choice.Step site.A ∷
+    choice.Step site.B ∷
+    choice.Step site.A ∷
+    choice.Step site.B ∷
+    choice.Step site.A ∷
+    choice.Step site.B ∷
+    choice.Step site.A ∷
+    choice.Step site.B ∷
+    choice.Tick ∷
+    choice.Step site.B ∷
+    choice.Step site.B ∷
+    choice.Step site.B ∷
+    choice.Step site.B ∷
+    choice.Step site.B ∷
+    choice.Step site.B ∷
+    choice.Step site.B ∷
+    choice.Step site.B ∷
+    choice.Step site.B ∷
+    choice.Tick ∷
+    choice.Step site.B ∷
+    choice.Step site.B ∷
+    choice.Step site.B ∷
+    choice.Step site.B ∷
+    choice.Step site.B ∷
+    choice.Step site.B ∷
+    choice.Step site.B ∷
+    choice.Step site.B ∷
+    choice.Step site.B ∷
+    choice.Step site.B ∷
+    choice.Step site.B ∷
+    choice.Step site.B ∷
+    choice.Tick ∷
+    choice.Step site.B ∷
+    choice.Step site.B ∷
+    choice.Step site.B ∷
+    choice.Step site.B ∷
+    choice.Step site.B ∷
+    choice.Tick ∷
+    choice.Step site.B ∷
+    choice.Step site.B ∷
+    choice.Step site.B ∷
+    choice.Step site.B ∷
+    choice.Step site.B ∷
+    choice.Tick ∷
+    choice.Step site.B ∷
+    choice.Step site.B ∷
+    choice.Step site.B ∷
+    choice.Step site.B ∷
+    choice.Step site.B ∷
+    choice.Tick ∷
+    choice.Step site.B ∷
+    choice.Step site.B ∷
+    choice.Step site.B ∷
+    choice.Step site.B ∷
+    choice.Step site.B ∷
+    choice.Tick ∷
+    choice.Step site.B ∷
+    choice.Step site.B ∷
+    choice.Step site.B ∷
+    choice.Step site.B ∷
+    choice.Step site.B ∷
+    []
+
+abbrev pub trace : List Entry
+trace =
+    entry_of 10 who.B 2 (act.Decide (decided.Owner acting.Nothing)) land.Full ∷
+    entry_of 10 who.B 2 (act.Look2) land.Full ∷
+    entry_of 10 who.B 2 (act.Look1) land.Full ∷
+    entry_of 10 who.B 2 (act.Signal2 (of_numbers 2 10 0)) land.Full ∷
+    entry_of 10 who.B 2 (act.Signal1 (of_numbers 2 10 0)) land.Full ∷
+    entry_of 10 who.Env 0 (act.Tick) land.Full ∷
+    entry_of 9 who.B 2 (act.Decide (decided.Owner acting.Nothing)) land.Full ∷
+    entry_of 9 who.B 2 (act.Look2) land.Full ∷
+    entry_of 9 who.B 2 (act.Look1) land.Full ∷
+    entry_of 9 who.B 2 (act.Signal2 (of_numbers 2 9 0)) land.Full ∷
+    entry_of 9 who.B 2 (act.Signal1 (of_numbers 2 9 0)) land.Full ∷
+    entry_of 9 who.Env 0 (act.Tick) land.Full ∷
+    entry_of 8 who.B 2 (act.Decide (decided.Owner acting.Nothing)) land.Full ∷
+    entry_of 8 who.B 2 (act.Look2) land.Full ∷
+    entry_of 8 who.B 2 (act.Look1) land.Full ∷
+    entry_of 8 who.B 2 (act.Signal2 (of_numbers 2 8 0)) land.Full ∷
+    entry_of 8 who.B 2 (act.Signal1 (of_numbers 2 8 0)) land.Full ∷
+    entry_of 8 who.Env 0 (act.Tick) land.Full ∷
+    entry_of 7 who.B 2 (act.Decide (decided.Owner acting.Nothing)) land.Full ∷
+    entry_of 7 who.B 2 (act.Look2) land.Full ∷
+    entry_of 7 who.B 2 (act.Look1) land.Full ∷
+    entry_of 7 who.B 2 (act.Signal2 (of_numbers 2 7 0)) land.Full ∷
+    entry_of 7 who.B 2 (act.Signal1 (of_numbers 2 7 0)) land.Full ∷
+    entry_of 7 who.Env 0 (act.Tick) land.Full ∷
+    entry_of 6 who.B 2 (act.Decide (decided.Owner acting.Nothing)) land.Full ∷
+    entry_of 6 who.B 2 (act.Look2) land.Full ∷
+    entry_of 6 who.B 2 (act.Look1) land.Full ∷
+    entry_of 6 who.B 2 (act.Signal2 (of_numbers 2 6 0)) land.Full ∷
+    entry_of 6 who.B 2 (act.Signal1 (of_numbers 2 6 0)) land.Full ∷
+    entry_of 6 who.Env 0 (act.Tick) land.Full ∷
+    entry_of 5 who.B 2 (act.Restarted) land.Full ∷
+    entry_of 5 who.B 2 (act.LogRead 0) land.Full ∷
+    entry_of 5 who.B 2 (act.MsgRead 4) land.Full ∷
+    entry_of 5 who.B 2 (act.Release) land.Full ∷
+    entry_of 5 who.B 2 (act.CtlWrite (of_parts 1 2 (Some (record { inc = 2; site = site.B; state = state.Running })) None None)) land.Full ∷
+    entry_of 5 who.B 2 (act.CtlRead) land.Full ∷
+    entry_of 5 who.B 2 (act.Reserve) land.Full ∷
+    entry_of 5 who.B 2 (act.Decide (decided.Waiting waiting.Through)) land.Full ∷
+    entry_of 5 who.B 2 (act.Look2) land.Full ∷
+    entry_of 5 who.B 2 (act.Look1) land.Full ∷
+    entry_of 5 who.B 2 (act.Signal2 (of_numbers 2 5 4)) land.Full ∷
+    entry_of 5 who.B 2 (act.Signal1 (of_numbers 2 5 4)) land.Full ∷
+    entry_of 5 who.Env 0 (act.Tick) land.Full ∷
+    entry_of 4 who.B 2 (act.Release) land.Full ∷
+    entry_of 4 who.B 2 (act.CtlWrite (of_parts 1 2 (Some (record { inc = 1; site = site.A; state = state.OffAbend })) (Some (record { inc = 2; site = site.B })) (Some (record { inc = 2; cause = cause.Abend })))) land.Full ∷
+    entry_of 4 who.B 2 (act.CtlRead) land.Full ∷
+    entry_of 4 who.B 2 (act.Reserve) land.Full ∷
+    entry_of 4 who.B 2 (act.Decide (decided.Alternate (decision.Start cause.Abend))) land.Full ∷
+    entry_of 4 who.B 2 (act.Look2) land.Full ∷
+    entry_of 4 who.B 2 (act.Look1) land.Full ∷
+    entry_of 4 who.B 2 (act.Signal2 (of_numbers 2 4 4)) land.Full ∷
+    entry_of 4 who.B 2 (act.Signal1 (of_numbers 2 4 4)) land.Full ∷
+    entry_of 4 who.Env 0 (act.Tick) land.Full ∷
+    entry_of 3 who.B 2 (act.MsgRead 4) land.Full ∷
+    entry_of 3 who.A 1 (act.Ended end.SignedOff) land.Full ∷
+    entry_of 3 who.B 2 (act.MsgRead 3) land.Full ∷
+    entry_of 3 who.A 1 (act.Release) land.Full ∷
+    entry_of 3 who.B 2 (act.MsgRead 2) land.Full ∷
+    entry_of 3 who.A 1 (act.CtlWrite (of_parts 1 2 (Some (record { inc = 1; site = site.A; state = state.OffAbend })) (Some (record { inc = 2; site = site.B })) None)) land.Full ∷
+    entry_of 3 who.B 2 (act.MsgRead 1) land.Full ∷
+    entry_of 3 who.A 1 (act.CtlRead) land.Full ∷
+    entry_of 3 who.B 2 (act.MsgRead 0) land.Full ∷
+    entry_of 3 who.A 1 (act.Reserve) land.Full ∷
+    entry_of 3 who.B 2 (act.Decide (decided.Alternate decision.Nothing)) land.Full ∷
+    entry_of 3 who.A 1 (act.Decide (decided.Owner acting.Nothing)) land.Full ∷
+    entry_of 3 who.B 2 (act.Look2) land.Full ∷
+    entry_of 3 who.A 1 (act.Look2) land.Full ∷
+    entry_of 3 who.B 2 (act.Look1) land.Full ∷
+    entry_of 3 who.A 1 (act.Look1) land.Full ∷
+    entry_of 3 who.B 2 (act.Signal2 (of_numbers 2 3 0)) land.Full ∷
+    entry_of 3 who.A 1 (act.Signal2 (of_numbers 1 4 0)) land.Full ∷
+    entry_of 3 who.A 1 (act.Abend) land.Full ∷
+    entry_of 3 who.B 2 (act.Signal1 (of_numbers 2 3 0)) land.Full ∷
+    entry_of 3 who.A 1 (act.Signal1 (of_numbers 1 4 0)) land.Full ∷
+    entry_of 3 who.Env 0 (act.Tick) land.Full ∷
+    entry_of 2 who.A 1 (act.MsgOpen 3 (message.End 2 3)) land.Full ∷
+    entry_of 2 who.A 1 (act.MsgBody 3 (message.End 2 3)) land.Full ∷
+    entry_of 2 who.A 1 (act.MsgRead 3) land.Full ∷
+    entry_of 2 who.A 1 (act.MsgOpen 2 (message.Term 2 2 (codes "T2") 2 true)) land.Full ∷
+    entry_of 2 who.A 1 (act.MsgBody 2 (message.Term 2 2 (codes "T2") 2 true)) land.Full ∷
+    entry_of 2 who.A 1 (act.MsgRead 2) land.Full ∷
+    entry_of 2 who.A 1 (act.MsgOpen 1 (message.Term 2 1 (codes "T1") 1 true)) land.Full ∷
+    entry_of 2 who.A 1 (act.MsgBody 1 (message.Term 2 1 (codes "T1") 1 true)) land.Full ∷
+    entry_of 2 who.A 1 (act.MsgRead 1) land.Full ∷
+    entry_of 2 who.A 1 (act.MsgOpen 0 (message.Begin 2)) land.Full ∷
+    entry_of 2 who.A 1 (act.MsgBody 0 (message.Begin 2)) land.Full ∷
+    entry_of 2 who.B 2 (act.MsgRead 0) land.Full ∷
+    entry_of 2 who.A 1 (act.MsgRead 0) land.Full ∷
+    entry_of 2 who.B 2 (act.Decide (decided.Alternate decision.Nothing)) land.Full ∷
+    entry_of 2 who.A 1 (act.Decide (decided.Owner (acting.CatchUp 2))) land.Full ∷
+    entry_of 2 who.B 2 (act.Look2) land.Full ∷
+    entry_of 2 who.A 1 (act.Look2) land.Full ∷
+    entry_of 2 who.B 2 (act.Look1) land.Full ∷
+    entry_of 2 who.A 1 (act.Look1) land.Full ∷
+    entry_of 2 who.B 2 (act.Signal2 (of_numbers 2 2 0)) land.Full ∷
+    entry_of 2 who.A 1 (act.Signal2 (of_numbers 1 3 0)) land.Full ∷
+    entry_of 2 who.B 2 (act.Signal1 (of_numbers 2 2 0)) land.Full ∷
+    entry_of 2 who.A 1 (act.Signal1 (of_numbers 1 3 0)) land.Full ∷
+    entry_of 2 who.Env 0 (act.Tick) land.Full ∷
+    entry_of 1 who.B 2 (act.MsgRead 0) land.Full ∷
+    entry_of 1 who.B 2 (act.Decide (decided.Alternate decision.Nothing)) land.Full ∷
+    entry_of 1 who.B 2 (act.Look2) land.Full ∷
+    entry_of 1 who.B 2 (act.Look1) land.Full ∷
+    entry_of 1 who.B 2 (act.Signal2 (of_numbers 2 1 0)) land.Full ∷
+    entry_of 1 who.B 2 (act.Signal1 (of_numbers 2 1 0)) land.Full ∷
+    entry_of 1 who.B 2 (act.Release) land.Full ∷
+    entry_of 1 who.A 1 (act.Decide (decided.Owner acting.Nothing)) land.Full ∷
+    entry_of 1 who.B 2 (act.CtlWrite (of_parts 1 2 (Some (record { inc = 1; site = site.A; state = state.Running })) (Some (record { inc = 2; site = site.B })) None)) land.Full ∷
+    entry_of 1 who.A 1 (act.Look2) land.Full ∷
+    entry_of 1 who.B 0 (act.CtlRead) land.Full ∷
+    entry_of 1 who.A 1 (act.Look1) land.Full ∷
+    entry_of 1 who.B 0 (act.Reserve) land.Full ∷
+    entry_of 1 who.A 1 (act.Signal2 (of_numbers 1 2 0)) land.Full ∷
+    entry_of 1 who.B 0 (act.StartStandby) land.Full ∷
+    entry_of 1 who.A 1 (act.Signal1 (of_numbers 1 2 0)) land.Full ∷
+    entry_of 1 who.Env 0 (act.Tick) land.Full ∷
+    entry_of 0 who.A 1 (act.Item 3) land.Full ∷
+    entry_of 0 who.A 1 (act.Item 2) land.Full ∷
+    entry_of 0 who.A 1 (act.Item 1) land.Full ∷
+    entry_of 0 who.A 1 (act.Restarted) land.Full ∷
+    entry_of 0 who.A 1 (act.LogRead 0) land.Full ∷
+    entry_of 0 who.A 1 (act.Decide (decided.Owner acting.Nothing)) land.Full ∷
+    entry_of 0 who.A 1 (act.Look2) land.Full ∷
+    entry_of 0 who.A 1 (act.Look1) land.Full ∷
+    entry_of 0 who.A 1 (act.Signal2 (of_numbers 1 1 0)) land.Full ∷
+    entry_of 0 who.A 1 (act.Signal1 (of_numbers 1 1 0)) land.Full ∷
+    entry_of 0 who.A 1 (act.Release) land.Full ∷
+    entry_of 0 who.A 1 (act.CtlWrite (of_parts 1 1 (Some (record { inc = 1; site = site.A; state = state.Running })) None None)) land.Full ∷
+    entry_of 0 who.A 0 (act.CtlRead) land.Full ∷
+    entry_of 0 who.A 0 (act.Reserve) land.Full ∷
+    entry_of 0 who.A 0 (act.StartActive) land.Full ∷
+    []

@@ -1,11 +1,12 @@
 #!/usr/bin/env python3
 """Turns a document into the scenario, the choices and the trace that the definitions speak of.
 
-usage: worked_run.py DOCUMENT MODULE [--acts N]
+usage: worked_run.py DOCUMENT TITLE [--acts N]
 
 The document is what `xrf replay` writes: the scenario, the choices, and the report with its ACT lines. The
-module that is printed has `scenario`, `choices` and `trace` (newest first). The before-image of each Put, which
-no ACT line shows, is found by keeping the file as the acts change it.
+module that is printed has `scenario`, `choices`, `trace` (newest first), and `told`: what else the report tells,
+which are the answers of the items, the tick, the control record, the counts of the log, the file and the terminals.
+The before-image of each Put, which no ACT line shows, is found by keeping the file as the acts change it.
 """
 import argparse
 import re
@@ -27,7 +28,7 @@ class Doc:
         level = "1" if self.head == "XRF 1" else "2"
         self.level = {"A": level, "B": level}
         self.records, self.clt, self.work = [], [], {"A": [], "B": []}
-        self.choices, self.acts = [], []
+        self.choices, self.acts, self.told = [], [], []
         for line in lines[1:]:
             self.take(line)
 
@@ -38,6 +39,8 @@ class Doc:
         if w[0] == "*":
             if w[1] == "ACT":
                 self.acts.append(w[2:])
+            else:
+                self.told.append(w[1:])
         elif w[0] == "APPLID":
             self.applid[w[1]] = w[2]
         elif w[0] == "LEVEL":
@@ -340,6 +343,52 @@ def slot(value):
     return [1] + [0] * 7 + list(text) + [32] * (24 - len(text))
 
 
+ANSWERS = {"DONE": "Done", "EMPTY": "Empty", "LOCKED": "Locked", "LOGFULL": "LogFull", "NOTOPEN": "NotOpen", "NAMEUSED": "NameUsed",
+           "UNITSFULL": "UnitsFull", "BADRRN": "BadRrn", "TERMUSED": "TermUsed", "TERMSFULL": "TermsFull", "NOTON": "NotOn",
+           "USERON": "UserOn", "NOUSER": "NoUser"}
+
+
+def answer(w):
+    if w[0] in ("OPEN", "LOST"):
+        return "None"
+    if w[0] == "VALUE":
+        return f"Some (answer.Got ({name(w[1])}))"
+    return f"Some answer.{ANSWERS[w[0]]}"
+
+
+def row(w, with_users):
+    user = "None" if not with_users or w[5] == "-" else f"Some ({name(w[5])})"
+    return f"record {{ term = {name(w[2])}; class = {w[3]}; how = how.{w[4].capitalize()}; user = {user} }}"
+
+
+def runs_of(values):
+    """A list, with equal neighbours as counts."""
+    parts, k = [], 0
+    while k < len(values):
+        n = k
+        while n < len(values) and values[n] == values[k]:
+            n += 1
+        parts.append(f"replicate {n - k} ({values[k]})" if n - k > 2 else "(" + "".join(f"{v} ∷ " for v in values[k:n]) + "[])")
+        k = n
+    return " ++ ".join(parts) if parts else "[]"
+
+
+def told(doc):
+    lines = doc.told
+    of = lambda word: [w for w in lines if w[0] == word]
+    log = of("LOG")[0]
+    file = ["Some None"] * int(doc.settings["FILE"])
+    for w in of("FILE"):
+        file[int(w[1]) - 1] = "None" if w[2] == "DAMAGED" else f"Some (Some ({name(w[2])}))"
+    answers = lambda x: "".join(answer(w[3:]) + " ∷ " for w in of("ITEM") if w[1] == x) + "[]"
+    rows = lambda x: "".join(row(w, doc.head != "XRF 1") + " ∷ " for w in of("TERM") if w[1] == x) + "[]"
+    return "\n".join([
+        "abbrev pub told : Told", "told = record {", f"      answers_a = {answers('A')};", f"      answers_b = {answers('B')};",
+        f"      tick = {of('TICK')[0][1]};", f"      held = {control(of('CONTROL')[0][1:])};", f"      records = {log[1]};",
+        f"      done = {log[3]};", f"      undone = {log[5]};", f"      file = {runs_of(file)};", f"      table_a = {rows('A')};",
+        f"      table_b = {rows('B')}", "    }", ""])
+
+
 def listed(lines):
     return "".join(f"\n    {line} ∷" for line in lines) + "\n    []"
 
@@ -378,7 +427,10 @@ use Rattle.xrf_base.specs.declared.site.Site.TheVariants as site
 use Rattle.xrf_base.specs.declared.site.Takeovr.TheVariants as takeovr
 use Rattle.xrf_base.specs.declared.items.Item.{Item}
 use Rattle.xrf_base.specs.declared.items.Item.TheVariants as items
+use Rattle.xrf_base.specs.declared.items.ItemAnswer.TheVariants as answer
 use Rattle.xrf_base.specs.declared.limits.Limits.{Limits}
+use Rattle.xrf_terms.specs.declared.rows.How.TheVariants as how
+use Rattle.xrf_terms.specs.declared.rows.Row.{Row}
 use Rattle.xrf_ctl.specs.declared.parts.Level.TheVariants as level
 use Rattle.xrf_ctl.specs.declared.parts.OwnerState.TheVariants as state
 use Rattle.xrf_ctl.specs.declared.parts.Cause.TheVariants as cause
@@ -403,7 +455,7 @@ use Rattle.xrf_trace.specs.declared.entry.Entry.{Entry}
 use Rattle.xrf_trace.specs.declared.entry.Land.TheVariants as land
 use Rattle.xrf_trace.specs.declared.entry.Who.TheVariants as who
 use Rattle.xrf_trace.specs.Scenario.{Scen}
-use Rattle.xrf_examples.specs.Making.{entry_of}"""
+use Rattle.xrf_examples.specs.Making.{Told, entry_of}"""
 
 
 def used(text):
@@ -425,10 +477,13 @@ if __name__ == "__main__":
     parser.add_argument("title")
     parser.add_argument("--acts", type=int, default=0, help="the first acts alone")
     args = parser.parse_args()
-    out, choices, traced = module(Doc(Path(args.document).read_text()), args.title, args.acts)
+    doc = Doc(Path(args.document).read_text())
+    out, choices, traced = module(doc, args.title, args.acts)
     body = "\n".join(out[2:])
     body += "abbrev pub choices : List Choice\nchoices =" + listed(choices) + "\n\n"
     body += "abbrev pub trace : List Entry\ntrace =" + listed(reversed(traced)) + "\n"
+    if not args.acts:
+        body += "\n" + told(doc)
     print(out[0])
     print(used(body))
     print(body, end="")

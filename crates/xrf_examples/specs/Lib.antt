@@ -1,4 +1,5 @@
 pub mod Making
+pub mod Refused
 pub mod OrdinaryUnitOfWork
 pub mod GrantingWritesThatAreStopped
 pub mod ASecondActiveIsRefused
@@ -31,3 +32,9 @@ pub mod AFullRingAndAnUnsentMessage
 pub mod TheOperatorIsAsked
 pub mod AdiAtItsBoundary
 pub mod ThreadsRunAPlanToATakeover
+pub mod TakeoverWithTheDefaultIntervals
+pub mod TheFullLog
+pub mod KeypointsAndARingLogThatGoesRound
+pub mod ATornKeypointCloseThatClosesTheSlot
+pub mod ATornKeypointCloseThatLeavesTheSlotOpen
+pub mod ATornKeypointBodyThatSpellsANewerKeypoint

@@ -1,9 +1,60 @@
--- How an entry is written in a worked run.
-use Rattle.std.specs.Prelude.{ℕ}
+-- How the entries of a worked run are written, and what its report tells beside them.
+use Rattle.std.specs.Prelude.{ℕ, List, [], length, map, Option}
+use Rattle.std.specs.Option.{option_map_or}
+use Rattle.std.specs.List.{range_with_len}
+use Rattle.xrf_base.specs.declared.items.ItemAnswer.{ItemAnswer}
+use Rattle.xrf_base.specs.declared.site.Site.{Site}
+use Rattle.xrf_base.specs.declared.site.Site.TheVariants.{A, B}
+use Rattle.xrf_base.specs.Values.{slot_reading}
+use Rattle.xrf_ctl.specs.Control.{ControlRecord}
+use Rattle.xrf_log.specs.Flight.{flight}
+use Rattle.xrf_terms.specs.declared.rows.Row.{Row}
+use Rattle.xrf_history.specs.Terminals.{table}
 use Rattle.xrf_trace.specs.declared.entry.Entry.{Entry}
 use Rattle.xrf_trace.specs.declared.entry.Act.{Act}
 use Rattle.xrf_trace.specs.declared.entry.Land.{Land}
 use Rattle.xrf_trace.specs.declared.entry.Who.{Who}
+use Rattle.xrf_trace.specs.Scenario.{Scen, settings}
+use Rattle.xrf_trace.specs.Words.{now, items_taken}
+use Rattle.xrf_trace.specs.Devices.{control, image}
+use Rattle.xrf_trace.specs.Jobs.{hist}
+use Rattle.xrf_trace.specs.Log.{log, committed}
+use Rattle.xrf_trace.specs.Items.{answer}
 
 abbrev pub entry_of : (tick : ℕ) → Who → (inc : ℕ) → Act → Land → Entry
 entry_of tick who inc act land = record { tick = tick; who = who; inc = inc; act = act; land = land }
+
+-- the answers of the items of each site (none while an item is not answered), the tick, the control record, the
+-- records of the log with the units committed and in flight, what each record of the file holds (nothing where its
+-- bytes are no slot), and the terminal table of each job
+pub record Told : Type 0 where
+  pub answers_a : List (Option ItemAnswer)
+  pub answers_b : List (Option ItemAnswer)
+  pub tick : ℕ
+  pub held : ControlRecord
+  pub records : ℕ
+  pub done : ℕ
+  pub undone : ℕ
+  pub file : List (Option (Option (List ℕ)))
+  pub table_a : List Row
+  pub table_b : List Row
+
+abbrev pub answers_of : Scen → List Entry → Site → List (Option ItemAnswer)
+answers_of s t x = map (λ k. answer s t x k) (range_with_len 1 (items_taken t x))
+
+abbrev pub table_of : Scen → List Entry → Site → List Row
+table_of s t x = option_map_or (λ h. table (settings s x) h) (hist s t x) []
+
+abbrev pub told_of : Scen → List Entry → Told
+told_of s t = record {
+      answers_a = answers_of s t A;
+      answers_b = answers_of s t B;
+      tick = now t;
+      held = control t;
+      records = length (log t);
+      done = length (committed (log t));
+      undone = length (flight (log t));
+      file = map (λ k. slot_reading (image s t k)) (range_with_len 1 s.limits.file);
+      table_a = table_of s t A;
+      table_b = table_of s t B
+    }

@@ -4,7 +4,9 @@ use Rattle.xrf_base.specs.declared.site.Site.TheVariants as site
 use Rattle.xrf_base.specs.declared.site.Takeovr.TheVariants as takeovr
 use Rattle.xrf_base.specs.declared.items.Item.{Item}
 use Rattle.xrf_base.specs.declared.items.Item.TheVariants as items
+use Rattle.xrf_base.specs.declared.items.ItemAnswer.TheVariants as answer
 use Rattle.xrf_base.specs.declared.limits.Limits.{Limits}
+use Rattle.xrf_terms.specs.declared.rows.Row.{Row}
 use Rattle.xrf_ctl.specs.declared.parts.Level.TheVariants as level
 use Rattle.xrf_ctl.specs.declared.parts.OwnerState.TheVariants as state
 use Rattle.xrf_ctl.specs.Control.{of_parts}
@@ -19,7 +21,7 @@ use Rattle.xrf_trace.specs.declared.entry.Entry.{Entry}
 use Rattle.xrf_trace.specs.declared.entry.Land.TheVariants as land
 use Rattle.xrf_trace.specs.declared.entry.Who.TheVariants as who
 use Rattle.xrf_trace.specs.Scenario.{Scen}
-use Rattle.xrf_examples.specs.Making.{entry_of}
+use Rattle.xrf_examples.specs.Making.{Told, entry_of}
 
 abbrev pub scenario : Scen
 scenario = record {
@@ -95,3 +97,17 @@ trace =
     entry_of 0 who.A 0 (act.Reserve) land.Full ∷
     entry_of 0 who.A 0 (act.StartActive) land.Full ∷
     []
+
+abbrev pub told : Told
+told = record {
+      answers_a = Some answer.Done ∷ Some answer.Done ∷ Some answer.Done ∷ Some answer.Done ∷ [];
+      answers_b = [];
+      tick = 0;
+      held = (of_parts 1 1 (Some (record { inc = 1; site = site.A; state = state.Running })) None None);
+      records = 3;
+      done = 1;
+      undone = 0;
+      file = (Some (Some (codes "NEW")) ∷ []) ++ (Some None ∷ []) ++ (Some (Some (codes "SECOND")) ∷ []) ++ (Some None ∷ []);
+      table_a = [];
+      table_b = []
+    }

@@ -4,6 +4,7 @@ use Rattle.xrf_base.specs.declared.site.Site.TheVariants as site
 use Rattle.xrf_base.specs.declared.site.Takeovr.TheVariants as takeovr
 use Rattle.xrf_base.specs.declared.items.Item.{Item}
 use Rattle.xrf_base.specs.declared.limits.Limits.{Limits}
+use Rattle.xrf_terms.specs.declared.rows.Row.{Row}
 use Rattle.xrf_ctl.specs.declared.parts.Level.TheVariants as level
 use Rattle.xrf_ctl.specs.declared.parts.OwnerState.TheVariants as state
 use Rattle.xrf_ctl.specs.declared.parts.Cause.TheVariants as cause
@@ -19,7 +20,7 @@ use Rattle.xrf_trace.specs.declared.entry.Entry.{Entry}
 use Rattle.xrf_trace.specs.declared.entry.Land.TheVariants as land
 use Rattle.xrf_trace.specs.declared.entry.Who.TheVariants as who
 use Rattle.xrf_trace.specs.Scenario.{Scen}
-use Rattle.xrf_examples.specs.Making.{entry_of}
+use Rattle.xrf_examples.specs.Making.{Told, entry_of}
 
 abbrev pub scenario : Scen
 scenario = record {
@@ -253,3 +254,17 @@ trace =
     entry_of 0 who.A 0 (act.Reserve) land.Full ∷
     entry_of 0 who.A 0 (act.StartActive) land.Full ∷
     []
+
+abbrev pub told : Told
+told = record {
+      answers_a = [];
+      answers_b = [];
+      tick = 11;
+      held = (of_parts 1 2 (Some (record { inc = 1; site = site.A; state = state.Running })) (Some (record { inc = 2; site = site.B })) (Some (record { inc = 2; cause = cause.Lost })));
+      records = 0;
+      done = 0;
+      undone = 0;
+      file = replicate 16 (Some None);
+      table_a = [];
+      table_b = []
+    }

@@ -1,4 +1,5 @@
 //! Worked runs: that these choices run to this trace, by computation.
 #![tactic(auto)]
 
+pub mod refusals;
 pub mod runs;

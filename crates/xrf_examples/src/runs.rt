@@ -2,6 +2,8 @@
 
 ghost use Rattle.std.specs.Prelude.{◌≡◌, Ok};
 ghost use Rattle.xrf_trace.specs.Runs.{run};
+ghost use Rattle.xrf_trace.specs.Safe.{Safe};
+ghost use Rattle.xrf_examples.specs.Making.{told_of};
 ghost use Rattle.xrf_examples.specs.OrdinaryUnitOfWork;
 ghost use Rattle.xrf_examples.specs.GrantingWritesThatAreStopped;
 ghost use Rattle.xrf_examples.specs.ASecondActiveIsRefused;
@@ -34,163 +36,269 @@ ghost use Rattle.xrf_examples.specs.AFullRingAndAnUnsentMessage;
 ghost use Rattle.xrf_examples.specs.TheOperatorIsAsked;
 ghost use Rattle.xrf_examples.specs.AdiAtItsBoundary;
 ghost use Rattle.xrf_examples.specs.ThreadsRunAPlanToATakeover;
+ghost use Rattle.xrf_examples.specs.TakeoverWithTheDefaultIntervals;
+ghost use Rattle.xrf_examples.specs.TheFullLog;
+ghost use Rattle.xrf_examples.specs.KeypointsAndARingLogThatGoesRound;
+ghost use Rattle.xrf_examples.specs.ATornKeypointCloseThatClosesTheSlot;
+ghost use Rattle.xrf_examples.specs.ATornKeypointCloseThatLeavesTheSlotOpen;
+ghost use Rattle.xrf_examples.specs.ATornKeypointBodyThatSpellsANewerKeypoint;
 
 /// Ordinary unit of work.
 pub fn ordinary_unit_of_work()
-    ensures { run OrdinaryUnitOfWork.scenario OrdinaryUnitOfWork.choices ≡ Ok OrdinaryUnitOfWork.trace }
+    ensures runs { run OrdinaryUnitOfWork.scenario OrdinaryUnitOfWork.choices ≡ Ok OrdinaryUnitOfWork.trace }
+    ensures told { told_of OrdinaryUnitOfWork.scenario OrdinaryUnitOfWork.trace ≡ OrdinaryUnitOfWork.told }
+    ensures safe { Safe OrdinaryUnitOfWork.scenario OrdinaryUnitOfWork.trace }
 {}
 
 /// Granting writes that are stopped.
 pub fn granting_writes_that_are_stopped()
-    ensures { run GrantingWritesThatAreStopped.scenario GrantingWritesThatAreStopped.choices ≡ Ok GrantingWritesThatAreStopped.trace }
+    ensures runs { run GrantingWritesThatAreStopped.scenario GrantingWritesThatAreStopped.choices ≡ Ok GrantingWritesThatAreStopped.trace }
+    ensures told { told_of GrantingWritesThatAreStopped.scenario GrantingWritesThatAreStopped.trace ≡ GrantingWritesThatAreStopped.told }
+    ensures safe { Safe GrantingWritesThatAreStopped.scenario GrantingWritesThatAreStopped.trace }
 {}
 
 /// A second active is refused.
 pub fn a_second_active_is_refused()
-    ensures { run ASecondActiveIsRefused.scenario ASecondActiveIsRefused.choices ≡ Ok ASecondActiveIsRefused.trace }
+    ensures runs { run ASecondActiveIsRefused.scenario ASecondActiveIsRefused.choices ≡ Ok ASecondActiveIsRefused.trace }
+    ensures told { told_of ASecondActiveIsRefused.scenario ASecondActiveIsRefused.trace ≡ ASecondActiveIsRefused.told }
+    ensures safe { Safe ASecondActiveIsRefused.scenario ASecondActiveIsRefused.trace }
 {}
 
 /// Item answers.
 pub fn item_answers()
-    ensures { run ItemAnswers.scenario ItemAnswers.choices ≡ Ok ItemAnswers.trace }
+    ensures runs { run ItemAnswers.scenario ItemAnswers.choices ≡ Ok ItemAnswers.trace }
+    ensures told { told_of ItemAnswers.scenario ItemAnswers.trace ≡ ItemAnswers.told }
+    ensures safe { Safe ItemAnswers.scenario ItemAnswers.trace }
 {}
 
 /// Item answers of units.
 pub fn item_answers_of_units()
-    ensures { run ItemAnswersOfUnits.scenario ItemAnswersOfUnits.choices ≡ Ok ItemAnswersOfUnits.trace }
+    ensures runs { run ItemAnswersOfUnits.scenario ItemAnswersOfUnits.choices ≡ Ok ItemAnswersOfUnits.trace }
+    ensures told { told_of ItemAnswersOfUnits.scenario ItemAnswersOfUnits.trace ≡ ItemAnswersOfUnits.told }
+    ensures safe { Safe ItemAnswersOfUnits.scenario ItemAnswersOfUnits.trace }
 {}
 
 /// The command list of the own applid.
 pub fn the_command_list_of_the_own_applid()
-    ensures { run TheCommandListOfTheOwnApplid.scenario TheCommandListOfTheOwnApplid.choices ≡ Ok TheCommandListOfTheOwnApplid.trace }
+    ensures runs { run TheCommandListOfTheOwnApplid.scenario TheCommandListOfTheOwnApplid.choices ≡ Ok TheCommandListOfTheOwnApplid.trace }
+    ensures told { told_of TheCommandListOfTheOwnApplid.scenario TheCommandListOfTheOwnApplid.trace ≡ TheCommandListOfTheOwnApplid.told }
+    ensures safe { Safe TheCommandListOfTheOwnApplid.scenario TheCommandListOfTheOwnApplid.trace }
 {}
 
 /// Torn file write.
 pub fn torn_file_write()
-    ensures { run TornFileWrite.scenario TornFileWrite.choices ≡ Ok TornFileWrite.trace }
+    ensures runs { run TornFileWrite.scenario TornFileWrite.choices ≡ Ok TornFileWrite.trace }
+    ensures told { told_of TornFileWrite.scenario TornFileWrite.trace ≡ TornFileWrite.told }
+    ensures safe { Safe TornFileWrite.scenario TornFileWrite.trace }
 {}
 
 /// CEBT commands and their replies.
 pub fn cebt_commands_and_their_replies()
-    ensures { run CebtCommandsAndTheirReplies.scenario CebtCommandsAndTheirReplies.choices ≡ Ok CebtCommandsAndTheirReplies.trace }
+    ensures runs { run CebtCommandsAndTheirReplies.scenario CebtCommandsAndTheirReplies.choices ≡ Ok CebtCommandsAndTheirReplies.trace }
+    ensures told { told_of CebtCommandsAndTheirReplies.scenario CebtCommandsAndTheirReplies.trace ≡ CebtCommandsAndTheirReplies.told }
+    ensures safe { Safe CebtCommandsAndTheirReplies.scenario CebtCommandsAndTheirReplies.trace }
 {}
 
 /// Stop in the opening write of a commit.
 pub fn stop_in_the_opening_write_of_a_commit()
-    ensures { run StopInTheOpeningWriteOfACommit.scenario StopInTheOpeningWriteOfACommit.choices ≡ Ok StopInTheOpeningWriteOfACommit.trace }
+    ensures runs { run StopInTheOpeningWriteOfACommit.scenario StopInTheOpeningWriteOfACommit.choices ≡ Ok StopInTheOpeningWriteOfACommit.trace }
+    ensures told { told_of StopInTheOpeningWriteOfACommit.scenario StopInTheOpeningWriteOfACommit.trace ≡ StopInTheOpeningWriteOfACommit.told }
+    ensures safe { Safe StopInTheOpeningWriteOfACommit.scenario StopInTheOpeningWriteOfACommit.trace }
 {}
 
 /// Stop in the opening write of a commit that leaves it closed.
 pub fn stop_in_the_opening_write_of_a_commit_that_leaves_it_closed()
-    ensures { run StopInTheOpeningWriteOfACommitThatLeavesItClosed.scenario StopInTheOpeningWriteOfACommitThatLeavesItClosed.choices ≡ Ok StopInTheOpeningWriteOfACommitThatLeavesItClosed.trace }
+    ensures runs { run StopInTheOpeningWriteOfACommitThatLeavesItClosed.scenario StopInTheOpeningWriteOfACommitThatLeavesItClosed.choices ≡ Ok StopInTheOpeningWriteOfACommitThatLeavesItClosed.trace }
+    ensures told { told_of StopInTheOpeningWriteOfACommitThatLeavesItClosed.scenario StopInTheOpeningWriteOfACommitThatLeavesItClosed.trace ≡ StopInTheOpeningWriteOfACommitThatLeavesItClosed.told }
+    ensures safe { Safe StopInTheOpeningWriteOfACommitThatLeavesItClosed.scenario StopInTheOpeningWriteOfACommitThatLeavesItClosed.trace }
 {}
 
 /// Record put twice and two stops.
 pub fn record_put_twice_and_two_stops()
-    ensures { run RecordPutTwiceAndTwoStops.scenario RecordPutTwiceAndTwoStops.choices ≡ Ok RecordPutTwiceAndTwoStops.trace }
+    ensures runs { run RecordPutTwiceAndTwoStops.scenario RecordPutTwiceAndTwoStops.choices ≡ Ok RecordPutTwiceAndTwoStops.trace }
+    ensures told { told_of RecordPutTwiceAndTwoStops.scenario RecordPutTwiceAndTwoStops.trace ≡ RecordPutTwiceAndTwoStops.told }
+    ensures safe { Safe RecordPutTwiceAndTwoStops.scenario RecordPutTwiceAndTwoStops.trace }
 {}
 
 /// A failing device in the opening write of a commit.
 pub fn a_failing_device_in_the_opening_write_of_a_commit()
-    ensures { run AFailingDeviceInTheOpeningWriteOfACommit.scenario AFailingDeviceInTheOpeningWriteOfACommit.choices ≡ Ok AFailingDeviceInTheOpeningWriteOfACommit.trace }
+    ensures runs { run AFailingDeviceInTheOpeningWriteOfACommit.scenario AFailingDeviceInTheOpeningWriteOfACommit.choices ≡ Ok AFailingDeviceInTheOpeningWriteOfACommit.trace }
+    ensures told { told_of AFailingDeviceInTheOpeningWriteOfACommit.scenario AFailingDeviceInTheOpeningWriteOfACommit.trace ≡ AFailingDeviceInTheOpeningWriteOfACommit.told }
+    ensures safe { Safe AFailingDeviceInTheOpeningWriteOfACommit.scenario AFailingDeviceInTheOpeningWriteOfACommit.trace }
 {}
 
 /// A failing read of a message slot drops the alternate.
 pub fn a_failing_read_of_a_message_slot_drops_the_alternate()
-    ensures { run AFailingReadOfAMessageSlotDropsTheAlternate.scenario AFailingReadOfAMessageSlotDropsTheAlternate.choices ≡ Ok AFailingReadOfAMessageSlotDropsTheAlternate.trace }
+    ensures runs { run AFailingReadOfAMessageSlotDropsTheAlternate.scenario AFailingReadOfAMessageSlotDropsTheAlternate.choices ≡ Ok AFailingReadOfAMessageSlotDropsTheAlternate.trace }
+    ensures told { told_of AFailingReadOfAMessageSlotDropsTheAlternate.scenario AFailingReadOfAMessageSlotDropsTheAlternate.trace ≡ AFailingReadOfAMessageSlotDropsTheAlternate.told }
+    ensures safe { Safe AFailingReadOfAMessageSlotDropsTheAlternate.scenario AFailingReadOfAMessageSlotDropsTheAlternate.trace }
 {}
 
 /// A failing message write drops the alternate.
 pub fn a_failing_message_write_drops_the_alternate()
-    ensures { run AFailingMessageWriteDropsTheAlternate.scenario AFailingMessageWriteDropsTheAlternate.choices ≡ Ok AFailingMessageWriteDropsTheAlternate.trace }
+    ensures runs { run AFailingMessageWriteDropsTheAlternate.scenario AFailingMessageWriteDropsTheAlternate.choices ≡ Ok AFailingMessageWriteDropsTheAlternate.trace }
+    ensures told { told_of AFailingMessageWriteDropsTheAlternate.scenario AFailingMessageWriteDropsTheAlternate.trace ≡ AFailingMessageWriteDropsTheAlternate.told }
+    ensures safe { Safe AFailingMessageWriteDropsTheAlternate.scenario AFailingMessageWriteDropsTheAlternate.trace }
 {}
 
 /// A failing gate that landed and the drop.
 pub fn a_failing_gate_that_landed_and_the_drop()
-    ensures { run AFailingGateThatLandedAndTheDrop.scenario AFailingGateThatLandedAndTheDrop.choices ≡ Ok AFailingGateThatLandedAndTheDrop.trace }
+    ensures runs { run AFailingGateThatLandedAndTheDrop.scenario AFailingGateThatLandedAndTheDrop.choices ≡ Ok AFailingGateThatLandedAndTheDrop.trace }
+    ensures told { told_of AFailingGateThatLandedAndTheDrop.scenario AFailingGateThatLandedAndTheDrop.trace ≡ AFailingGateThatLandedAndTheDrop.told }
+    ensures safe { Safe AFailingGateThatLandedAndTheDrop.scenario AFailingGateThatLandedAndTheDrop.trace }
 {}
 
 /// A failing read of a waiting alternate.
 pub fn a_failing_read_of_a_waiting_alternate()
-    ensures { run AFailingReadOfAWaitingAlternate.scenario AFailingReadOfAWaitingAlternate.choices ≡ Ok AFailingReadOfAWaitingAlternate.trace }
+    ensures runs { run AFailingReadOfAWaitingAlternate.scenario AFailingReadOfAWaitingAlternate.choices ≡ Ok AFailingReadOfAWaitingAlternate.trace }
+    ensures told { told_of AFailingReadOfAWaitingAlternate.scenario AFailingReadOfAWaitingAlternate.trace ≡ AFailingReadOfAWaitingAlternate.told }
+    ensures safe { Safe AFailingReadOfAWaitingAlternate.scenario AFailingReadOfAWaitingAlternate.trace }
 {}
 
 /// Command waits for CEBT.
 pub fn command_waits_for_cebt()
-    ensures { run CommandWaitsForCebt.scenario CommandWaitsForCebt.choices ≡ Ok CommandWaitsForCebt.trace }
+    ensures runs { run CommandWaitsForCebt.scenario CommandWaitsForCebt.choices ≡ Ok CommandWaitsForCebt.trace }
+    ensures told { told_of CommandWaitsForCebt.scenario CommandWaitsForCebt.trace ≡ CommandWaitsForCebt.told }
+    ensures safe { Safe CommandWaitsForCebt.scenario CommandWaitsForCebt.trace }
 {}
 
 /// Command waits for CEBT up to the decision to go through.
 pub fn command_waits_for_cebt_up_to_the_decision_to_go_through()
-    ensures { run CommandWaitsForCebtUpToTheDecisionToGoThrough.scenario CommandWaitsForCebtUpToTheDecisionToGoThrough.choices ≡ Ok CommandWaitsForCebtUpToTheDecisionToGoThrough.trace }
+    ensures runs { run CommandWaitsForCebtUpToTheDecisionToGoThrough.scenario CommandWaitsForCebtUpToTheDecisionToGoThrough.choices ≡ Ok CommandWaitsForCebtUpToTheDecisionToGoThrough.trace }
+    ensures told { told_of CommandWaitsForCebtUpToTheDecisionToGoThrough.scenario CommandWaitsForCebtUpToTheDecisionToGoThrough.trace ≡ CommandWaitsForCebtUpToTheDecisionToGoThrough.told }
+    ensures safe { Safe CommandWaitsForCebtUpToTheDecisionToGoThrough.scenario CommandWaitsForCebtUpToTheDecisionToGoThrough.trace }
 {}
 
 /// Migration of a pair to format 2.
 pub fn migration_of_a_pair_to_format_2()
-    ensures { run MigrationOfAPairToFormat2.scenario MigrationOfAPairToFormat2.choices ≡ Ok MigrationOfAPairToFormat2.trace }
+    ensures runs { run MigrationOfAPairToFormat2.scenario MigrationOfAPairToFormat2.choices ≡ Ok MigrationOfAPairToFormat2.trace }
+    ensures told { told_of MigrationOfAPairToFormat2.scenario MigrationOfAPairToFormat2.trace ≡ MigrationOfAPairToFormat2.told }
+    ensures safe { Safe MigrationOfAPairToFormat2.scenario MigrationOfAPairToFormat2.trace }
 {}
 
 /// An exit inside a sign off.
 pub fn an_exit_inside_a_sign_off()
-    ensures { run AnExitInsideASignOff.scenario AnExitInsideASignOff.choices ≡ Ok AnExitInsideASignOff.trace }
+    ensures runs { run AnExitInsideASignOff.scenario AnExitInsideASignOff.choices ≡ Ok AnExitInsideASignOff.trace }
+    ensures told { told_of AnExitInsideASignOff.scenario AnExitInsideASignOff.trace ≡ AnExitInsideASignOff.told }
+    ensures safe { Safe AnExitInsideASignOff.scenario AnExitInsideASignOff.trace }
 {}
 
 /// The status exit of the paused active.
 pub fn the_status_exit_of_the_paused_active()
-    ensures { run TheStatusExitOfThePausedActive.scenario TheStatusExitOfThePausedActive.choices ≡ Ok TheStatusExitOfThePausedActive.trace }
+    ensures runs { run TheStatusExitOfThePausedActive.scenario TheStatusExitOfThePausedActive.choices ≡ Ok TheStatusExitOfThePausedActive.trace }
+    ensures told { told_of TheStatusExitOfThePausedActive.scenario TheStatusExitOfThePausedActive.trace ≡ TheStatusExitOfThePausedActive.told }
+    ensures safe { Safe TheStatusExitOfThePausedActive.scenario TheStatusExitOfThePausedActive.trace }
 {}
 
 /// A garbage body that is not opened.
 pub fn a_garbage_body_that_is_not_opened()
-    ensures { run AGarbageBodyThatIsNotOpened.scenario AGarbageBodyThatIsNotOpened.choices ≡ Ok AGarbageBodyThatIsNotOpened.trace }
+    ensures runs { run AGarbageBodyThatIsNotOpened.scenario AGarbageBodyThatIsNotOpened.choices ≡ Ok AGarbageBodyThatIsNotOpened.trace }
+    ensures told { told_of AGarbageBodyThatIsNotOpened.scenario AGarbageBodyThatIsNotOpened.trace ≡ AGarbageBodyThatIsNotOpened.told }
+    ensures safe { Safe AGarbageBodyThatIsNotOpened.scenario AGarbageBodyThatIsNotOpened.trace }
 {}
 
 /// The alternate is dropped.
 pub fn the_alternate_is_dropped()
-    ensures { run TheAlternateIsDropped.scenario TheAlternateIsDropped.choices ≡ Ok TheAlternateIsDropped.trace }
+    ensures runs { run TheAlternateIsDropped.scenario TheAlternateIsDropped.choices ≡ Ok TheAlternateIsDropped.trace }
+    ensures told { told_of TheAlternateIsDropped.scenario TheAlternateIsDropped.trace ≡ TheAlternateIsDropped.told }
+    ensures safe { Safe TheAlternateIsDropped.scenario TheAlternateIsDropped.trace }
 {}
 
 /// A start that is overtaken by a normal sign off.
 pub fn a_start_that_is_overtaken_by_a_normal_sign_off()
-    ensures { run AStartThatIsOvertakenByANormalSignOff.scenario AStartThatIsOvertakenByANormalSignOff.choices ≡ Ok AStartThatIsOvertakenByANormalSignOff.trace }
+    ensures runs { run AStartThatIsOvertakenByANormalSignOff.scenario AStartThatIsOvertakenByANormalSignOff.choices ≡ Ok AStartThatIsOvertakenByANormalSignOff.trace }
+    ensures told { told_of AStartThatIsOvertakenByANormalSignOff.scenario AStartThatIsOvertakenByANormalSignOff.trace ≡ AStartThatIsOvertakenByANormalSignOff.told }
+    ensures safe { Safe AStartThatIsOvertakenByANormalSignOff.scenario AStartThatIsOvertakenByANormalSignOff.trace }
 {}
 
 /// Users at a takeover are signed off by force.
 pub fn users_at_a_takeover_are_signed_off_by_force()
-    ensures { run UsersAtATakeoverAreSignedOffByForce.scenario UsersAtATakeoverAreSignedOffByForce.choices ≡ Ok UsersAtATakeoverAreSignedOffByForce.trace }
+    ensures runs { run UsersAtATakeoverAreSignedOffByForce.scenario UsersAtATakeoverAreSignedOffByForce.choices ≡ Ok UsersAtATakeoverAreSignedOffByForce.trace }
+    ensures told { told_of UsersAtATakeoverAreSignedOffByForce.scenario UsersAtATakeoverAreSignedOffByForce.trace ≡ UsersAtATakeoverAreSignedOffByForce.told }
+    ensures safe { Safe UsersAtATakeoverAreSignedOffByForce.scenario UsersAtATakeoverAreSignedOffByForce.trace }
 {}
 
 /// Users at a takeover stay with noforce.
 pub fn users_at_a_takeover_stay_with_noforce()
-    ensures { run UsersAtATakeoverStayWithNoforce.scenario UsersAtATakeoverStayWithNoforce.choices ≡ Ok UsersAtATakeoverStayWithNoforce.trace }
+    ensures runs { run UsersAtATakeoverStayWithNoforce.scenario UsersAtATakeoverStayWithNoforce.choices ≡ Ok UsersAtATakeoverStayWithNoforce.trace }
+    ensures told { told_of UsersAtATakeoverStayWithNoforce.scenario UsersAtATakeoverStayWithNoforce.trace ≡ UsersAtATakeoverStayWithNoforce.told }
+    ensures safe { Safe UsersAtATakeoverStayWithNoforce.scenario UsersAtATakeoverStayWithNoforce.trace }
 {}
 
 /// The paused active.
 pub fn the_paused_active()
-    ensures { run ThePausedActive.scenario ThePausedActive.choices ≡ Ok ThePausedActive.trace }
+    ensures runs { run ThePausedActive.scenario ThePausedActive.choices ≡ Ok ThePausedActive.trace }
+    ensures told { told_of ThePausedActive.scenario ThePausedActive.trace ≡ ThePausedActive.told }
+    ensures safe { Safe ThePausedActive.scenario ThePausedActive.trace }
 {}
 
 /// The second path carries the signal.
 pub fn the_second_path_carries_the_signal()
-    ensures { run TheSecondPathCarriesTheSignal.scenario TheSecondPathCarriesTheSignal.choices ≡ Ok TheSecondPathCarriesTheSignal.trace }
+    ensures runs { run TheSecondPathCarriesTheSignal.scenario TheSecondPathCarriesTheSignal.choices ≡ Ok TheSecondPathCarriesTheSignal.trace }
+    ensures told { told_of TheSecondPathCarriesTheSignal.scenario TheSecondPathCarriesTheSignal.trace ≡ TheSecondPathCarriesTheSignal.told }
+    ensures safe { Safe TheSecondPathCarriesTheSignal.scenario TheSecondPathCarriesTheSignal.trace }
 {}
 
 /// A full ring and an unsent message.
 pub fn a_full_ring_and_an_unsent_message()
-    ensures { run AFullRingAndAnUnsentMessage.scenario AFullRingAndAnUnsentMessage.choices ≡ Ok AFullRingAndAnUnsentMessage.trace }
+    ensures runs { run AFullRingAndAnUnsentMessage.scenario AFullRingAndAnUnsentMessage.choices ≡ Ok AFullRingAndAnUnsentMessage.trace }
+    ensures told { told_of AFullRingAndAnUnsentMessage.scenario AFullRingAndAnUnsentMessage.trace ≡ AFullRingAndAnUnsentMessage.told }
+    ensures safe { Safe AFullRingAndAnUnsentMessage.scenario AFullRingAndAnUnsentMessage.trace }
 {}
 
 /// The operator is asked.
 pub fn the_operator_is_asked()
-    ensures { run TheOperatorIsAsked.scenario TheOperatorIsAsked.choices ≡ Ok TheOperatorIsAsked.trace }
+    ensures runs { run TheOperatorIsAsked.scenario TheOperatorIsAsked.choices ≡ Ok TheOperatorIsAsked.trace }
+    ensures told { told_of TheOperatorIsAsked.scenario TheOperatorIsAsked.trace ≡ TheOperatorIsAsked.told }
+    ensures safe { Safe TheOperatorIsAsked.scenario TheOperatorIsAsked.trace }
 {}
 
 /// ADI at its boundary.
 pub fn adi_at_its_boundary()
-    ensures { run AdiAtItsBoundary.scenario AdiAtItsBoundary.choices ≡ Ok AdiAtItsBoundary.trace }
+    ensures runs { run AdiAtItsBoundary.scenario AdiAtItsBoundary.choices ≡ Ok AdiAtItsBoundary.trace }
+    ensures told { told_of AdiAtItsBoundary.scenario AdiAtItsBoundary.trace ≡ AdiAtItsBoundary.told }
+    ensures safe { Safe AdiAtItsBoundary.scenario AdiAtItsBoundary.trace }
 {}
 
 /// Threads run a plan to a takeover.
 pub fn threads_run_a_plan_to_a_takeover()
-    ensures { run ThreadsRunAPlanToATakeover.scenario ThreadsRunAPlanToATakeover.choices ≡ Ok ThreadsRunAPlanToATakeover.trace }
+    ensures runs { run ThreadsRunAPlanToATakeover.scenario ThreadsRunAPlanToATakeover.choices ≡ Ok ThreadsRunAPlanToATakeover.trace }
+    ensures told { told_of ThreadsRunAPlanToATakeover.scenario ThreadsRunAPlanToATakeover.trace ≡ ThreadsRunAPlanToATakeover.told }
+    ensures safe { Safe ThreadsRunAPlanToATakeover.scenario ThreadsRunAPlanToATakeover.trace }
+{}
+
+/// Takeover with the default intervals.
+pub fn takeover_with_the_default_intervals()
+    ensures runs { run TakeoverWithTheDefaultIntervals.scenario TakeoverWithTheDefaultIntervals.choices ≡ Ok TakeoverWithTheDefaultIntervals.trace }
+    ensures told { told_of TakeoverWithTheDefaultIntervals.scenario TakeoverWithTheDefaultIntervals.trace ≡ TakeoverWithTheDefaultIntervals.told }
+{}
+
+/// The full log.
+pub fn the_full_log()
+    ensures runs { run TheFullLog.scenario TheFullLog.choices ≡ Ok TheFullLog.trace }
+    ensures told { told_of TheFullLog.scenario TheFullLog.trace ≡ TheFullLog.told }
+{}
+
+/// Keypoints and a ring log that goes round.
+pub fn keypoints_and_a_ring_log_that_goes_round()
+    ensures runs { run KeypointsAndARingLogThatGoesRound.scenario KeypointsAndARingLogThatGoesRound.choices ≡ Ok KeypointsAndARingLogThatGoesRound.trace }
+    ensures told { told_of KeypointsAndARingLogThatGoesRound.scenario KeypointsAndARingLogThatGoesRound.trace ≡ KeypointsAndARingLogThatGoesRound.told }
+{}
+
+/// A torn keypoint close that closes the slot.
+pub fn a_torn_keypoint_close_that_closes_the_slot()
+    ensures runs { run ATornKeypointCloseThatClosesTheSlot.scenario ATornKeypointCloseThatClosesTheSlot.choices ≡ Ok ATornKeypointCloseThatClosesTheSlot.trace }
+    ensures told { told_of ATornKeypointCloseThatClosesTheSlot.scenario ATornKeypointCloseThatClosesTheSlot.trace ≡ ATornKeypointCloseThatClosesTheSlot.told }
+{}
+
+/// A torn keypoint close that leaves the slot open.
+pub fn a_torn_keypoint_close_that_leaves_the_slot_open()
+    ensures runs { run ATornKeypointCloseThatLeavesTheSlotOpen.scenario ATornKeypointCloseThatLeavesTheSlotOpen.choices ≡ Ok ATornKeypointCloseThatLeavesTheSlotOpen.trace }
+    ensures told { told_of ATornKeypointCloseThatLeavesTheSlotOpen.scenario ATornKeypointCloseThatLeavesTheSlotOpen.trace ≡ ATornKeypointCloseThatLeavesTheSlotOpen.told }
+{}
+
+/// A torn keypoint body that spells a newer keypoint.
+pub fn a_torn_keypoint_body_that_spells_a_newer_keypoint()
+    ensures runs { run ATornKeypointBodyThatSpellsANewerKeypoint.scenario ATornKeypointBodyThatSpellsANewerKeypoint.choices ≡ Ok ATornKeypointBodyThatSpellsANewerKeypoint.trace }
+    ensures told { told_of ATornKeypointBodyThatSpellsANewerKeypoint.scenario ATornKeypointBodyThatSpellsANewerKeypoint.trace ≡ ATornKeypointBodyThatSpellsANewerKeypoint.told }
 {}

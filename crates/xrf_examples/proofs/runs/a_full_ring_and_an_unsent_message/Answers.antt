@@ -1,5 +1,20 @@
-use Rattle.std.proofs.Common.{refl}
+-- A clause is a pair for each entry: what holds of the entries before it, and what holds of it.
+use Rattle.std.proofs.Common.{refl, rules}
 use Rattle.xrf_examples.proofs.runs.a_full_ring_and_an_unsent_message.Goals as goal
 
-pub returns : goal.returns
-returns c = refl
+pub returns-clause-safe : goal.returns-clause-safe
+returns-clause-safe c = record {
+      one_updater = record { updates = search rules; grants = search rules };
+      file_is_book = search rules;
+      table_is_tracked = ((((((((((((((((((((((((((((((((((((((((((((((((((((((((((((((((((((((((((((((((((((((((((((((((((((((tt, tt), tt), tt), tt), tt), tt), tt), tt), tt), tt), tt), (refl, (refl, refl))), tt), tt), tt), tt), tt), tt), tt), tt), tt), tt), tt), tt), tt), tt), tt), tt), tt), tt), tt), tt), tt), tt), tt), tt), tt), tt), tt), tt), tt), tt), tt), tt), tt), tt), tt), tt), tt), tt), tt), tt), tt), tt), tt), tt), tt), tt), tt), tt), tt), tt), tt), tt), tt), tt), tt), tt), tt), tt), tt), tt), tt), tt), tt), tt), tt), tt), tt), tt), tt), tt), tt), tt), tt), tt), tt), tt), tt), tt), tt), tt), tt), tt), tt), tt), tt), tt), tt), tt), tt), (refl, tt));
+      start_by_cause = record { decides = search rules; starts = search rules; only = search rules };
+      through_by_proof = record {
+            waits = search rules;
+            goes = search rules;
+            only = search rules;
+            signs_on = ((((((((((((((((((((((((((((((((((((((((((((((((((((((((((((((((((((((((((((((((((((((((((((((((((((((tt, tt), tt), tt), refl), refl), tt), tt), tt), tt), tt), tt), tt), tt), tt), tt), tt), tt), tt), tt), tt), tt), tt), tt), tt), tt), tt), tt), tt), tt), tt), tt), tt), tt), tt), tt), tt), tt), tt), tt), tt), tt), tt), tt), tt), tt), tt), tt), tt), tt), tt), tt), tt), tt), tt), tt), tt), tt), tt), tt), tt), tt), tt), tt), tt), tt), tt), tt), tt), tt), tt), tt), tt), tt), tt), tt), tt), tt), tt), tt), tt), tt), tt), tt), tt), tt), tt), tt), tt), tt), tt), tt), tt), tt), tt), tt), tt), tt), tt), tt), tt), tt), tt);
+            over_none = search rules
+          };
+      silent_once_seen = search rules;
+      format_by_level = record { meets = search rules; format = search rules }
+    }

@@ -1,5 +1,0 @@
-use Rattle.std.proofs.Common.{refl}
-use Rattle.xrf_examples.proofs.runs.item_answers_of_units.Goals as goal
-
-pub returns : goal.returns
-returns c = refl

@@ -1,5 +1,0 @@
-use Rattle.std.proofs.Common.{refl}
-use Rattle.xrf_examples.proofs.runs.stop_in_the_opening_write_of_a_commit_that_leaves_it_closed.Goals as goal
-
-pub returns : goal.returns
-returns c = refl

@@ -1,12 +1,9 @@
 -- A torn keypoint close that closes the slot.
-use Rattle.std.specs.Prelude.{ℕ, Bool, true, false, List, [], ◌∷◌, ◌++◌, replicate, codes, Option, Some, None}
+use Rattle.std.specs.Prelude.{false, List, [], ◌∷◌, ◌++◌, replicate, codes, Some, None}
 use Rattle.xrf_base.specs.declared.site.Site.TheVariants as site
 use Rattle.xrf_base.specs.declared.site.Takeovr.TheVariants as takeovr
-use Rattle.xrf_base.specs.declared.items.Item.{Item}
 use Rattle.xrf_base.specs.declared.items.Item.TheVariants as items
 use Rattle.xrf_base.specs.declared.items.ItemAnswer.TheVariants as answer
-use Rattle.xrf_base.specs.declared.limits.Limits.{Limits}
-use Rattle.xrf_terms.specs.declared.rows.Row.{Row}
 use Rattle.xrf_ctl.specs.declared.parts.Level.TheVariants as level
 use Rattle.xrf_ctl.specs.declared.parts.OwnerState.TheVariants as state
 use Rattle.xrf_ctl.specs.Control.{of_parts}
@@ -26,19 +23,20 @@ use Rattle.xrf_examples.specs.Making.{Told, entry_of}
 
 abbrev pub scenario : Scen
 scenario = record {
-      limits = record { log = 64; ring = 16; file = 4 };
-      takeovr = takeovr.Manual;
-      adi = 30;
-      pdi = 30;
-      level_a = level.One;
-      level_b = level.One;
-      force = false;
-      clt_a = 0;
-      clt_b = 0;
-      records = [];
-      work_a = items.Begin (codes "U1") ∷ items.Put (codes "U1") 1 (codes "V1") ∷ items.Put (codes "U1") 2 (codes "W1") ∷ items.Commit (codes "U1") ∷ items.Begin (codes "U1") ∷ items.Put (codes "U1") 1 (codes "V2") ∷ items.Put (codes "U1") 2 (codes "W2") ∷ items.Commit (codes "U1") ∷ items.Begin (codes "U1") ∷ items.Put (codes "U1") 1 (codes "V3") ∷ items.Put (codes "U1") 2 (codes "W3") ∷ items.Commit (codes "U1") ∷ items.Begin (codes "U1") ∷ items.Put (codes "U1") 1 (codes "V4") ∷ items.Put (codes "U1") 2 (codes "W4") ∷ items.Commit (codes "U1") ∷ items.Begin (codes "U1") ∷ items.Put (codes "U1") 1 (codes "V5") ∷ items.Put (codes "U1") 2 (codes "W5") ∷ items.Commit (codes "U1") ∷ items.Begin (codes "U1") ∷ items.Put (codes "U1") 1 (codes "V6") ∷ items.Put (codes "U1") 2 (codes "W6") ∷ items.Commit (codes "U1") ∷ items.Begin (codes "U1") ∷ items.Put (codes "U1") 1 (codes "V7") ∷ items.Put (codes "U1") 2 (codes "W7") ∷ items.Commit (codes "U1") ∷ items.Begin (codes "U1") ∷ items.Put (codes "U1") 1 (codes "V8") ∷ items.Put (codes "U1") 2 (codes "W8") ∷ items.Commit (codes "U1") ∷ items.Begin (codes "U1") ∷ items.Put (codes "U1") 1 (codes "V9") ∷ items.Put (codes "U1") 2 (codes "W9") ∷ items.Commit (codes "U1") ∷ items.Begin (codes "U1") ∷ items.Put (codes "U1") 1 (codes "V10") ∷ items.Put (codes "U1") 2 (codes "W10") ∷ items.Commit (codes "U1") ∷ items.Begin (codes "U1") ∷ items.Put (codes "U1") 1 (codes "V11") ∷ items.Put (codes "U1") 2 (codes "W11") ∷ items.Commit (codes "U1") ∷ items.Begin (codes "U1") ∷ items.Put (codes "U1") 1 (codes "V12") ∷ items.Put (codes "U1") 2 (codes "W12") ∷ items.Commit (codes "U1") ∷ items.Begin (codes "U1") ∷ items.Put (codes "U1") 1 (codes "V13") ∷ items.Put (codes "U1") 2 (codes "W13") ∷ items.Commit (codes "U1") ∷ items.Begin (codes "U1") ∷ items.Put (codes "U1") 1 (codes "V14") ∷ items.Put (codes "U1") 2 (codes "W14") ∷ items.Commit (codes "U1") ∷ items.Begin (codes "U1") ∷ items.Put (codes "U1") 1 (codes "V15") ∷ items.Put (codes "U1") 2 (codes "W15") ∷ items.Commit (codes "U1") ∷ items.Begin (codes "U1") ∷ items.Put (codes "U1") 1 (codes "V16") ∷ items.Put (codes "U1") 2 (codes "W16") ∷ items.Commit (codes "U1") ∷ items.Begin (codes "U1") ∷ items.Put (codes "U1") 1 (codes "V17") ∷ items.Put (codes "U1") 2 (codes "W17") ∷ items.Commit (codes "U1") ∷ items.Begin (codes "U1") ∷ items.Put (codes "U1") 1 (codes "V18") ∷ items.Put (codes "U1") 2 (codes "W18") ∷ items.Commit (codes "U1") ∷ items.Begin (codes "U1") ∷ items.Put (codes "U1") 1 (codes "V19") ∷ items.Put (codes "U1") 2 (codes "W19") ∷ items.Commit (codes "U1") ∷ items.Begin (codes "U1") ∷ items.Put (codes "U1") 1 (codes "V20") ∷ items.Put (codes "U1") 2 (codes "W20") ∷ items.Commit (codes "U1") ∷ items.Begin (codes "U1") ∷ items.Put (codes "U1") 1 (codes "V21") ∷ items.Put (codes "U1") 2 (codes "W21") ∷ items.Commit (codes "U1") ∷ items.Begin (codes "U1") ∷ items.Put (codes "U1") 1 (codes "V22") ∷ items.Put (codes "U1") 2 (codes "W22") ∷ items.Commit (codes "U1") ∷ items.Begin (codes "U1") ∷ items.Put (codes "U1") 1 (codes "V23") ∷ items.Put (codes "U1") 2 (codes "W23") ∷ items.Commit (codes "U1") ∷ items.Begin (codes "U1") ∷ items.Put (codes "U1") 1 (codes "V24") ∷ items.Put (codes "U1") 2 (codes "W24") ∷ items.Commit (codes "U1") ∷ items.Begin (codes "U1") ∷ items.Put (codes "U1") 1 (codes "V25") ∷ items.Put (codes "U1") 2 (codes "W25") ∷ items.Commit (codes "U1") ∷ items.Begin (codes "U1") ∷ items.Put (codes "U1") 1 (codes "V26") ∷ items.Put (codes "U1") 2 (codes "W26") ∷ items.Commit (codes "U1") ∷ items.Begin (codes "U1") ∷ items.Put (codes "U1") 1 (codes "V27") ∷ items.Put (codes "U1") 2 (codes "W27") ∷ items.Commit (codes "U1") ∷ items.Begin (codes "U1") ∷ items.Put (codes "U1") 1 (codes "V28") ∷ items.Put (codes "U1") 2 (codes "W28") ∷ items.Commit (codes "U1") ∷ items.Begin (codes "U1") ∷ items.Put (codes "U1") 1 (codes "V29") ∷ items.Put (codes "U1") 2 (codes "W29") ∷ items.Commit (codes "U1") ∷ items.Begin (codes "U1") ∷ items.Put (codes "U1") 1 (codes "V30") ∷ items.Put (codes "U1") 2 (codes "W30") ∷ items.Commit (codes "U1") ∷ items.Begin (codes "U1") ∷ items.Put (codes "U1") 1 (codes "V31") ∷ items.Put (codes "U1") 2 (codes "W31") ∷ items.Commit (codes "U1") ∷ items.Begin (codes "U1") ∷ items.Put (codes "U1") 1 (codes "V32") ∷ items.Put (codes "U1") 2 (codes "W32") ∷ items.Commit (codes "U1") ∷ items.Begin (codes "U1") ∷ items.Put (codes "U1") 1 (codes "V33") ∷ items.Put (codes "U1") 2 (codes "W33") ∷ items.Commit (codes "U1") ∷ [];
-      work_b = []
-    }
+  limits = record { log = 64; ring = 16; file = 4 };
+  takeovr = takeovr.Manual;
+  adi = 30;
+  pdi = 30;
+  level_a = level.One;
+  level_b = level.One;
+  force = false;
+  clt_a = 0;
+  clt_b = 0;
+  records = [];
+  work_a = items.Begin (codes "U1") ∷ items.Put (codes "U1") 1 (codes "V1") ∷ items.Put (codes "U1") 2 (codes "W1") ∷ items.Commit (codes "U1") ∷ items.Begin (codes "U1") ∷ items.Put (codes "U1") 1 (codes "V2") ∷ items.Put (codes "U1") 2 (codes "W2") ∷ items.Commit (codes "U1") ∷ items.Begin (codes "U1") ∷ items.Put (codes "U1") 1 (codes "V3") ∷ items.Put (codes "U1") 2 (codes "W3") ∷ items.Commit (codes "U1") ∷ items.Begin (codes "U1") ∷ items.Put (codes "U1") 1 (codes "V4") ∷ items.Put (codes "U1") 2 (codes "W4") ∷ items.Commit (codes "U1") ∷ items.Begin (codes "U1") ∷ items.Put (codes "U1") 1 (codes "V5") ∷ items.Put (codes "U1") 2 (codes "W5") ∷ items.Commit (codes "U1") ∷ items.Begin (codes "U1") ∷ items.Put (codes "U1") 1 (codes "V6") ∷ items.Put (codes "U1") 2 (codes "W6") ∷ items.Commit (codes "U1") ∷ items.Begin (codes "U1") ∷ items.Put (codes "U1") 1 (codes "V7") ∷ items.Put (codes "U1") 2 (codes "W7") ∷ items.Commit (codes "U1") ∷ items.Begin (codes "U1") ∷ items.Put (codes "U1") 1 (codes "V8") ∷ items.Put (codes "U1") 2 (codes "W8") ∷ items.Commit (codes "U1") ∷ items.Begin (codes "U1") ∷ items.Put (codes "U1") 1 (codes "V9") ∷ items.Put (codes "U1") 2 (codes "W9") ∷ items.Commit (codes "U1") ∷ items.Begin (codes "U1") ∷ items.Put (codes "U1") 1 (codes "V10") ∷ items.Put (codes "U1") 2 (codes "W10") ∷ items.Commit (codes "U1") ∷ items.Begin (codes "U1") ∷ items.Put (codes "U1") 1 (codes "V11") ∷ items.Put (codes "U1") 2 (codes "W11") ∷ items.Commit (codes "U1") ∷ items.Begin (codes "U1") ∷ items.Put (codes "U1") 1 (codes "V12") ∷ items.Put (codes "U1") 2 (codes "W12") ∷ items.Commit (codes "U1") ∷ items.Begin (codes "U1") ∷ items.Put (codes "U1") 1 (codes "V13") ∷ items.Put (codes "U1") 2 (codes "W13") ∷ items.Commit (codes "U1") ∷ items.Begin (codes "U1") ∷ items.Put (codes "U1") 1 (codes "V14") ∷ items.Put (codes "U1") 2 (codes "W14") ∷ items.Commit (codes "U1") ∷ items.Begin (codes "U1") ∷ items.Put (codes "U1") 1 (codes "V15") ∷ items.Put (codes "U1") 2 (codes "W15") ∷ items.Commit (codes "U1") ∷ items.Begin (codes "U1") ∷ items.Put (codes "U1") 1 (codes "V16") ∷ items.Put (codes "U1") 2 (codes "W16") ∷ items.Commit (codes "U1") ∷ items.Begin (codes "U1") ∷ items.Put (codes "U1") 1 (codes "V17") ∷ items.Put (codes "U1") 2 (codes "W17") ∷ items.Commit (codes "U1") ∷ items.Begin (codes "U1") ∷ items.Put (codes "U1") 1 (codes "V18") ∷ items.Put (codes "U1") 2 (codes "W18") ∷ items.Commit (codes "U1") ∷ items.Begin (codes "U1") ∷ items.Put (codes "U1") 1 (codes "V19") ∷ items.Put (codes "U1") 2 (codes "W19") ∷ items.Commit (codes "U1") ∷ items.Begin (codes "U1") ∷ items.Put (codes "U1") 1 (codes "V20") ∷ items.Put (codes "U1") 2 (codes "W20") ∷ items.Commit (codes "U1") ∷ items.Begin (codes "U1") ∷ items.Put (codes "U1") 1 (codes "V21") ∷ items.Put (codes "U1") 2 (codes "W21") ∷ items.Commit (codes "U1") ∷ items.Begin (codes "U1") ∷ items.Put (codes "U1") 1 (codes "V22") ∷ items.Put (codes "U1") 2 (codes "W22") ∷ items.Commit (codes "U1") ∷ items.Begin (codes "U1") ∷ items.Put (codes "U1") 1 (codes "V23") ∷ items.Put (codes "U1") 2 (codes "W23") ∷ items.Commit (codes "U1") ∷ items.Begin (codes "U1") ∷ items.Put (codes "U1") 1 (codes "V24") ∷ items.Put (codes "U1") 2 (codes "W24") ∷ items.Commit (codes "U1") ∷ items.Begin (codes "U1") ∷ items.Put (codes "U1") 1 (codes "V25") ∷ items.Put (codes "U1") 2 (codes "W25") ∷ items.Commit (codes "U1") ∷ items.Begin (codes "U1") ∷ items.Put (codes "U1") 1 (codes "V26") ∷ items.Put (codes "U1") 2 (codes "W26") ∷ items.Commit (codes "U1") ∷ items.Begin (codes "U1") ∷ items.Put (codes "U1") 1 (codes "V27") ∷ items.Put (codes "U1") 2 (codes "W27") ∷ items.Commit (codes "U1") ∷ items.Begin (codes "U1") ∷ items.Put (codes "U1") 1 (codes "V28") ∷ items.Put (codes "U1") 2 (codes "W28") ∷ items.Commit (codes "U1") ∷ items.Begin (codes "U1") ∷ items.Put (codes "U1") 1 (codes "V29") ∷ items.Put (codes "U1") 2 (codes "W29") ∷ items.Commit (codes "U1") ∷ items.Begin (codes "U1") ∷ items.Put (codes "U1") 1 (codes "V30") ∷ items.Put (codes "U1") 2 (codes "W30") ∷ items.Commit (codes "U1") ∷ items.Begin (codes "U1") ∷ items.Put (codes "U1") 1 (codes "V31") ∷ items.Put (codes "U1") 2 (codes "W31") ∷ items.Commit (codes "U1") ∷ items.Begin (codes "U1") ∷ items.Put (codes "U1") 1 (codes "V32") ∷ items.Put (codes "U1") 2 (codes "W32") ∷ items.Commit (codes "U1") ∷ items.Begin (codes "U1") ∷ items.Put (codes "U1") 1 (codes "V33") ∷ items.Put (codes "U1") 2 (codes "W33") ∷ items.Commit (codes "U1") ∷ [];
+  work_b = [];
+}
+
 abbrev pub choices : List Choice
 choices =
     choice.StartActive site.A ∷
@@ -1099,14 +1097,14 @@ trace =
 
 abbrev pub told : Told
 told = record {
-      answers_a = Some answer.Done ∷ Some answer.Done ∷ Some answer.Done ∷ Some answer.Done ∷ Some answer.Done ∷ Some answer.Done ∷ Some answer.Done ∷ Some answer.Done ∷ Some answer.Done ∷ Some answer.Done ∷ Some answer.Done ∷ Some answer.Done ∷ Some answer.Done ∷ Some answer.Done ∷ Some answer.Done ∷ Some answer.Done ∷ Some answer.Done ∷ Some answer.Done ∷ Some answer.Done ∷ Some answer.Done ∷ Some answer.Done ∷ Some answer.Done ∷ Some answer.Done ∷ Some answer.Done ∷ Some answer.Done ∷ Some answer.Done ∷ Some answer.Done ∷ Some answer.Done ∷ Some answer.Done ∷ Some answer.Done ∷ Some answer.Done ∷ Some answer.Done ∷ Some answer.Done ∷ Some answer.Done ∷ Some answer.Done ∷ Some answer.Done ∷ Some answer.Done ∷ Some answer.Done ∷ Some answer.Done ∷ Some answer.Done ∷ Some answer.Done ∷ Some answer.Done ∷ Some answer.Done ∷ Some answer.Done ∷ Some answer.Done ∷ Some answer.Done ∷ Some answer.Done ∷ Some answer.Done ∷ Some answer.Done ∷ Some answer.Done ∷ Some answer.Done ∷ Some answer.Done ∷ Some answer.Done ∷ Some answer.Done ∷ Some answer.Done ∷ Some answer.Done ∷ Some answer.Done ∷ Some answer.Done ∷ Some answer.Done ∷ Some answer.Done ∷ Some answer.Done ∷ Some answer.Done ∷ Some answer.Done ∷ Some answer.Done ∷ Some answer.Done ∷ Some answer.Done ∷ Some answer.Done ∷ Some answer.Done ∷ Some answer.Done ∷ Some answer.Done ∷ Some answer.Done ∷ Some answer.Done ∷ Some answer.Done ∷ Some answer.Done ∷ Some answer.Done ∷ Some answer.Done ∷ Some answer.Done ∷ Some answer.Done ∷ Some answer.Done ∷ Some answer.Done ∷ Some answer.Done ∷ Some answer.Done ∷ Some answer.Done ∷ Some answer.Done ∷ Some answer.Done ∷ Some answer.Done ∷ Some answer.Done ∷ Some answer.Done ∷ Some answer.Done ∷ Some answer.Done ∷ Some answer.Done ∷ Some answer.Done ∷ Some answer.Done ∷ Some answer.Done ∷ Some answer.Done ∷ Some answer.Done ∷ Some answer.Done ∷ Some answer.Done ∷ Some answer.Done ∷ Some answer.Done ∷ Some answer.Done ∷ Some answer.Done ∷ Some answer.Done ∷ Some answer.Done ∷ Some answer.Done ∷ Some answer.Done ∷ Some answer.Done ∷ Some answer.Done ∷ Some answer.Done ∷ Some answer.Done ∷ Some answer.Done ∷ Some answer.Done ∷ Some answer.Done ∷ Some answer.Done ∷ Some answer.Done ∷ Some answer.Done ∷ Some answer.Done ∷ Some answer.Done ∷ Some answer.Done ∷ Some answer.Done ∷ Some answer.Done ∷ Some answer.Done ∷ Some answer.Done ∷ [];
-      answers_b = [];
-      tick = 0;
-      held = (of_parts 1 2 (Some (record { inc = 2; site = site.A; state = state.Running })) None None);
-      records = 92;
-      done = 30;
-      undone = 1;
-      file = (Some (Some (codes "V30")) ∷ []) ++ (Some (Some (codes "W30")) ∷ []) ++ (Some None ∷ Some None ∷ []);
-      table_a = [];
-      table_b = []
-    }
+  answers_a = Some answer.Done ∷ Some answer.Done ∷ Some answer.Done ∷ Some answer.Done ∷ Some answer.Done ∷ Some answer.Done ∷ Some answer.Done ∷ Some answer.Done ∷ Some answer.Done ∷ Some answer.Done ∷ Some answer.Done ∷ Some answer.Done ∷ Some answer.Done ∷ Some answer.Done ∷ Some answer.Done ∷ Some answer.Done ∷ Some answer.Done ∷ Some answer.Done ∷ Some answer.Done ∷ Some answer.Done ∷ Some answer.Done ∷ Some answer.Done ∷ Some answer.Done ∷ Some answer.Done ∷ Some answer.Done ∷ Some answer.Done ∷ Some answer.Done ∷ Some answer.Done ∷ Some answer.Done ∷ Some answer.Done ∷ Some answer.Done ∷ Some answer.Done ∷ Some answer.Done ∷ Some answer.Done ∷ Some answer.Done ∷ Some answer.Done ∷ Some answer.Done ∷ Some answer.Done ∷ Some answer.Done ∷ Some answer.Done ∷ Some answer.Done ∷ Some answer.Done ∷ Some answer.Done ∷ Some answer.Done ∷ Some answer.Done ∷ Some answer.Done ∷ Some answer.Done ∷ Some answer.Done ∷ Some answer.Done ∷ Some answer.Done ∷ Some answer.Done ∷ Some answer.Done ∷ Some answer.Done ∷ Some answer.Done ∷ Some answer.Done ∷ Some answer.Done ∷ Some answer.Done ∷ Some answer.Done ∷ Some answer.Done ∷ Some answer.Done ∷ Some answer.Done ∷ Some answer.Done ∷ Some answer.Done ∷ Some answer.Done ∷ Some answer.Done ∷ Some answer.Done ∷ Some answer.Done ∷ Some answer.Done ∷ Some answer.Done ∷ Some answer.Done ∷ Some answer.Done ∷ Some answer.Done ∷ Some answer.Done ∷ Some answer.Done ∷ Some answer.Done ∷ Some answer.Done ∷ Some answer.Done ∷ Some answer.Done ∷ Some answer.Done ∷ Some answer.Done ∷ Some answer.Done ∷ Some answer.Done ∷ Some answer.Done ∷ Some answer.Done ∷ Some answer.Done ∷ Some answer.Done ∷ Some answer.Done ∷ Some answer.Done ∷ Some answer.Done ∷ Some answer.Done ∷ Some answer.Done ∷ Some answer.Done ∷ Some answer.Done ∷ Some answer.Done ∷ Some answer.Done ∷ Some answer.Done ∷ Some answer.Done ∷ Some answer.Done ∷ Some answer.Done ∷ Some answer.Done ∷ Some answer.Done ∷ Some answer.Done ∷ Some answer.Done ∷ Some answer.Done ∷ Some answer.Done ∷ Some answer.Done ∷ Some answer.Done ∷ Some answer.Done ∷ Some answer.Done ∷ Some answer.Done ∷ Some answer.Done ∷ Some answer.Done ∷ Some answer.Done ∷ Some answer.Done ∷ Some answer.Done ∷ Some answer.Done ∷ Some answer.Done ∷ Some answer.Done ∷ Some answer.Done ∷ Some answer.Done ∷ Some answer.Done ∷ Some answer.Done ∷ Some answer.Done ∷ [];
+  answers_b = [];
+  tick = 0;
+  held = (of_parts 1 2 (Some (record { inc = 2; site = site.A; state = state.Running })) None None);
+  records = 92;
+  done = 30;
+  undone = 1;
+  file = (Some (Some (codes "V30")) ∷ []) ++ (Some (Some (codes "W30")) ∷ []) ++ (Some None ∷ Some None ∷ []);
+  table_a = [];
+  table_b = [];
+}

@@ -1,10 +1,7 @@
 -- Command waits for CEBT.
-use Rattle.std.specs.Prelude.{ℕ, Bool, true, false, List, [], ◌∷◌, ◌++◌, replicate, codes, Option, Some, None}
+use Rattle.std.specs.Prelude.{false, List, [], ◌∷◌, replicate, Some, None}
 use Rattle.xrf_base.specs.declared.site.Site.TheVariants as site
 use Rattle.xrf_base.specs.declared.site.Takeovr.TheVariants as takeovr
-use Rattle.xrf_base.specs.declared.items.Item.{Item}
-use Rattle.xrf_base.specs.declared.limits.Limits.{Limits}
-use Rattle.xrf_terms.specs.declared.rows.Row.{Row}
 use Rattle.xrf_ctl.specs.declared.parts.Level.TheVariants as level
 use Rattle.xrf_ctl.specs.declared.parts.OwnerState.TheVariants as state
 use Rattle.xrf_ctl.specs.declared.parts.Cause.TheVariants as cause
@@ -28,19 +25,20 @@ use Rattle.xrf_examples.specs.Making.{Told, entry_of}
 
 abbrev pub scenario : Scen
 scenario = record {
-      limits = record { log = 64; ring = 16; file = 16 };
-      takeovr = takeovr.Command;
-      adi = 30;
-      pdi = 30;
-      level_a = level.One;
-      level_b = level.One;
-      force = false;
-      clt_a = 0;
-      clt_b = 0;
-      records = [];
-      work_a = [];
-      work_b = []
-    }
+  limits = record { log = 64; ring = 16; file = 16 };
+  takeovr = takeovr.Command;
+  adi = 30;
+  pdi = 30;
+  level_a = level.One;
+  level_b = level.One;
+  force = false;
+  clt_a = 0;
+  clt_b = 0;
+  records = [];
+  work_a = [];
+  work_b = [];
+}
+
 abbrev pub choices : List Choice
 choices =
     choice.StartActive site.A ∷
@@ -171,14 +169,14 @@ trace =
 
 abbrev pub told : Told
 told = record {
-      answers_a = [];
-      answers_b = [];
-      tick = 3;
-      held = (of_parts 1 2 (Some (record { inc = 2; site = site.B; state = state.Running })) None None);
-      records = 0;
-      done = 0;
-      undone = 0;
-      file = replicate 16 (Some None);
-      table_a = [];
-      table_b = []
-    }
+  answers_a = [];
+  answers_b = [];
+  tick = 3;
+  held = (of_parts 1 2 (Some (record { inc = 2; site = site.B; state = state.Running })) None None);
+  records = 0;
+  done = 0;
+  undone = 0;
+  file = replicate 16 (Some None);
+  table_a = [];
+  table_b = [];
+}

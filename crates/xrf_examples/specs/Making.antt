@@ -47,14 +47,14 @@ table_of s t x = option_map_or (λ h. table (settings s x) h) (hist s t x) []
 
 abbrev pub told_of : Scen → List Entry → Told
 told_of s t = record {
-      answers_a = answers_of s t A;
-      answers_b = answers_of s t B;
-      tick = now t;
-      held = control t;
-      records = length (log t);
-      done = length (committed (log t));
-      undone = length (flight (log t));
-      file = map (λ k. slot_reading (image s t k)) (range_with_len 1 s.limits.file);
-      table_a = table_of s t A;
-      table_b = table_of s t B
-    }
+  answers_a = answers_of s t A;
+  answers_b = answers_of s t B;
+  tick = now t;
+  held = control t;
+  records = length (log t);
+  done = length (committed (log t));
+  undone = length (flight (log t));
+  file = map (λ k. slot_reading (image s t k)) (range_with_len 1 s.limits.file);
+  table_a = table_of s t A;
+  table_b = table_of s t B;
+}

@@ -1,13 +1,10 @@
 -- Takeover with the default intervals.
-use Rattle.std.specs.Prelude.{ℕ, Bool, true, false, List, [], ◌∷◌, ◌++◌, replicate, codes, Option, Some, None}
+use Rattle.std.specs.Prelude.{true, false, List, [], ◌∷◌, ◌++◌, replicate, codes, Some, None}
 use Rattle.xrf_base.specs.declared.site.Site.TheVariants as site
 use Rattle.xrf_base.specs.declared.site.Takeovr.TheVariants as takeovr
-use Rattle.xrf_base.specs.declared.items.Item.{Item}
 use Rattle.xrf_base.specs.declared.items.Item.TheVariants as items
 use Rattle.xrf_base.specs.declared.items.ItemAnswer.TheVariants as answer
-use Rattle.xrf_base.specs.declared.limits.Limits.{Limits}
 use Rattle.xrf_terms.specs.declared.rows.How.TheVariants as how
-use Rattle.xrf_terms.specs.declared.rows.Row.{Row}
 use Rattle.xrf_ctl.specs.declared.parts.Level.TheVariants as level
 use Rattle.xrf_ctl.specs.declared.parts.OwnerState.TheVariants as state
 use Rattle.xrf_ctl.specs.declared.parts.Cause.TheVariants as cause
@@ -31,19 +28,20 @@ use Rattle.xrf_examples.specs.Making.{Told, entry_of}
 
 abbrev pub scenario : Scen
 scenario = record {
-      limits = record { log = 64; ring = 16; file = 16 };
-      takeovr = takeovr.Auto;
-      adi = 30;
-      pdi = 30;
-      level_a = level.One;
-      level_b = level.One;
-      force = false;
-      clt_a = 0;
-      clt_b = 2;
-      records = (1, codes "BALANCE-100") ∷ [];
-      work_a = items.Logon (codes "T1") 1 ∷ items.Logon (codes "T2") 2 ∷ items.Logon (codes "T3") 3 ∷ items.Begin (codes "U1") ∷ items.Put (codes "U1") 1 (codes "BALANCE-150") ∷ items.Commit (codes "U1") ∷ items.Begin (codes "U2") ∷ items.Put (codes "U2") 1 (codes "BALANCE-900") ∷ [];
-      work_b = []
-    }
+  limits = record { log = 64; ring = 16; file = 16 };
+  takeovr = takeovr.Auto;
+  adi = 30;
+  pdi = 30;
+  level_a = level.One;
+  level_b = level.One;
+  force = false;
+  clt_a = 0;
+  clt_b = 2;
+  records = (1, codes "BALANCE-100") ∷ [];
+  work_a = items.Logon (codes "T1") 1 ∷ items.Logon (codes "T2") 2 ∷ items.Logon (codes "T3") 3 ∷ items.Begin (codes "U1") ∷ items.Put (codes "U1") 1 (codes "BALANCE-150") ∷ items.Commit (codes "U1") ∷ items.Begin (codes "U2") ∷ items.Put (codes "U2") 1 (codes "BALANCE-900") ∷ [];
+  work_b = [];
+}
+
 abbrev pub choices : List Choice
 choices =
     choice.StartActive site.A ∷
@@ -658,14 +656,14 @@ trace =
 
 abbrev pub told : Told
 told = record {
-      answers_a = Some answer.Done ∷ Some answer.Done ∷ Some answer.Done ∷ Some answer.Done ∷ Some answer.Done ∷ Some answer.Done ∷ Some answer.Done ∷ Some answer.Done ∷ [];
-      answers_b = [];
-      tick = 32;
-      held = (of_parts 1 2 (Some (record { inc = 2; site = site.B; state = state.Running })) None None);
-      records = 4;
-      done = 1;
-      undone = 0;
-      file = (Some (Some (codes "BALANCE-150")) ∷ []) ++ replicate 15 (Some None);
-      table_a = [];
-      table_b = record { term = codes "T1"; class = 1; how = how.Switched; user = None } ∷ record { term = codes "T2"; class = 2; how = how.Acquired; user = None } ∷ []
-    }
+  answers_a = Some answer.Done ∷ Some answer.Done ∷ Some answer.Done ∷ Some answer.Done ∷ Some answer.Done ∷ Some answer.Done ∷ Some answer.Done ∷ Some answer.Done ∷ [];
+  answers_b = [];
+  tick = 32;
+  held = (of_parts 1 2 (Some (record { inc = 2; site = site.B; state = state.Running })) None None);
+  records = 4;
+  done = 1;
+  undone = 0;
+  file = (Some (Some (codes "BALANCE-150")) ∷ []) ++ replicate 15 (Some None);
+  table_a = [];
+  table_b = record { term = codes "T1"; class = 1; how = how.Switched; user = None } ∷ record { term = codes "T2"; class = 2; how = how.Acquired; user = None } ∷ [];
+}

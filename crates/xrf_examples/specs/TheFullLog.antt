@@ -1,12 +1,9 @@
 -- The full log.
-use Rattle.std.specs.Prelude.{ℕ, Bool, true, false, List, [], ◌∷◌, ◌++◌, replicate, codes, Option, Some, None}
+use Rattle.std.specs.Prelude.{false, List, [], ◌∷◌, ◌++◌, replicate, codes, Some, None}
 use Rattle.xrf_base.specs.declared.site.Site.TheVariants as site
 use Rattle.xrf_base.specs.declared.site.Takeovr.TheVariants as takeovr
-use Rattle.xrf_base.specs.declared.items.Item.{Item}
 use Rattle.xrf_base.specs.declared.items.Item.TheVariants as items
 use Rattle.xrf_base.specs.declared.items.ItemAnswer.TheVariants as answer
-use Rattle.xrf_base.specs.declared.limits.Limits.{Limits}
-use Rattle.xrf_terms.specs.declared.rows.Row.{Row}
 use Rattle.xrf_ctl.specs.declared.parts.Level.TheVariants as level
 use Rattle.xrf_ctl.specs.declared.parts.OwnerState.TheVariants as state
 use Rattle.xrf_ctl.specs.Control.{of_parts}
@@ -25,19 +22,20 @@ use Rattle.xrf_examples.specs.Making.{Told, entry_of}
 
 abbrev pub scenario : Scen
 scenario = record {
-      limits = record { log = 64; ring = 16; file = 16 };
-      takeovr = takeovr.Manual;
-      adi = 30;
-      pdi = 30;
-      level_a = level.One;
-      level_b = level.One;
-      force = false;
-      clt_a = 0;
-      clt_b = 0;
-      records = [];
-      work_a = items.Begin (codes "U1") ∷ items.Put (codes "U1") 1 (codes "V") ∷ items.Put (codes "U1") 1 (codes "V") ∷ items.Put (codes "U1") 1 (codes "V") ∷ items.Put (codes "U1") 1 (codes "V") ∷ items.Put (codes "U1") 1 (codes "V") ∷ items.Put (codes "U1") 1 (codes "V") ∷ items.Put (codes "U1") 1 (codes "V") ∷ items.Put (codes "U1") 1 (codes "V") ∷ items.Put (codes "U1") 1 (codes "V") ∷ items.Put (codes "U1") 1 (codes "V") ∷ items.Put (codes "U1") 1 (codes "V") ∷ items.Put (codes "U1") 1 (codes "V") ∷ items.Put (codes "U1") 1 (codes "V") ∷ items.Put (codes "U1") 1 (codes "V") ∷ items.Put (codes "U1") 1 (codes "V") ∷ items.Put (codes "U1") 1 (codes "V") ∷ items.Put (codes "U1") 1 (codes "V") ∷ items.Put (codes "U1") 1 (codes "V") ∷ items.Put (codes "U1") 1 (codes "V") ∷ items.Put (codes "U1") 1 (codes "V") ∷ items.Put (codes "U1") 1 (codes "V") ∷ items.Put (codes "U1") 1 (codes "V") ∷ items.Put (codes "U1") 1 (codes "V") ∷ items.Put (codes "U1") 1 (codes "V") ∷ items.Put (codes "U1") 1 (codes "V") ∷ items.Put (codes "U1") 1 (codes "V") ∷ items.Put (codes "U1") 1 (codes "V") ∷ items.Put (codes "U1") 1 (codes "V") ∷ items.Put (codes "U1") 1 (codes "V") ∷ items.Put (codes "U1") 1 (codes "V") ∷ items.Put (codes "U1") 1 (codes "V") ∷ items.Put (codes "U1") 1 (codes "V") ∷ items.Put (codes "U1") 1 (codes "V") ∷ items.Put (codes "U1") 1 (codes "V") ∷ items.Put (codes "U1") 1 (codes "V") ∷ items.Put (codes "U1") 1 (codes "V") ∷ items.Put (codes "U1") 1 (codes "V") ∷ items.Put (codes "U1") 1 (codes "V") ∷ items.Put (codes "U1") 1 (codes "V") ∷ items.Put (codes "U1") 1 (codes "V") ∷ items.Put (codes "U1") 1 (codes "V") ∷ items.Put (codes "U1") 1 (codes "V") ∷ items.Put (codes "U1") 1 (codes "V") ∷ items.Put (codes "U1") 1 (codes "V") ∷ items.Put (codes "U1") 1 (codes "V") ∷ items.Put (codes "U1") 1 (codes "V") ∷ items.Put (codes "U1") 1 (codes "V") ∷ items.Put (codes "U1") 1 (codes "V") ∷ items.Put (codes "U1") 1 (codes "V") ∷ items.Put (codes "U1") 1 (codes "V") ∷ items.Put (codes "U1") 1 (codes "V") ∷ items.Put (codes "U1") 1 (codes "V") ∷ items.Put (codes "U1") 1 (codes "V") ∷ items.Put (codes "U1") 1 (codes "V") ∷ items.Put (codes "U1") 1 (codes "V") ∷ items.Put (codes "U1") 1 (codes "V") ∷ items.Put (codes "U1") 1 (codes "V") ∷ items.Put (codes "U1") 1 (codes "V") ∷ items.Put (codes "U1") 1 (codes "V") ∷ items.Put (codes "U1") 1 (codes "V") ∷ items.Put (codes "U1") 1 (codes "V") ∷ items.Put (codes "U1") 1 (codes "V") ∷ items.Put (codes "U1") 1 (codes "V") ∷ items.Put (codes "U1") 1 (codes "V") ∷ items.Commit (codes "U1") ∷ [];
-      work_b = []
-    }
+  limits = record { log = 64; ring = 16; file = 16 };
+  takeovr = takeovr.Manual;
+  adi = 30;
+  pdi = 30;
+  level_a = level.One;
+  level_b = level.One;
+  force = false;
+  clt_a = 0;
+  clt_b = 0;
+  records = [];
+  work_a = items.Begin (codes "U1") ∷ items.Put (codes "U1") 1 (codes "V") ∷ items.Put (codes "U1") 1 (codes "V") ∷ items.Put (codes "U1") 1 (codes "V") ∷ items.Put (codes "U1") 1 (codes "V") ∷ items.Put (codes "U1") 1 (codes "V") ∷ items.Put (codes "U1") 1 (codes "V") ∷ items.Put (codes "U1") 1 (codes "V") ∷ items.Put (codes "U1") 1 (codes "V") ∷ items.Put (codes "U1") 1 (codes "V") ∷ items.Put (codes "U1") 1 (codes "V") ∷ items.Put (codes "U1") 1 (codes "V") ∷ items.Put (codes "U1") 1 (codes "V") ∷ items.Put (codes "U1") 1 (codes "V") ∷ items.Put (codes "U1") 1 (codes "V") ∷ items.Put (codes "U1") 1 (codes "V") ∷ items.Put (codes "U1") 1 (codes "V") ∷ items.Put (codes "U1") 1 (codes "V") ∷ items.Put (codes "U1") 1 (codes "V") ∷ items.Put (codes "U1") 1 (codes "V") ∷ items.Put (codes "U1") 1 (codes "V") ∷ items.Put (codes "U1") 1 (codes "V") ∷ items.Put (codes "U1") 1 (codes "V") ∷ items.Put (codes "U1") 1 (codes "V") ∷ items.Put (codes "U1") 1 (codes "V") ∷ items.Put (codes "U1") 1 (codes "V") ∷ items.Put (codes "U1") 1 (codes "V") ∷ items.Put (codes "U1") 1 (codes "V") ∷ items.Put (codes "U1") 1 (codes "V") ∷ items.Put (codes "U1") 1 (codes "V") ∷ items.Put (codes "U1") 1 (codes "V") ∷ items.Put (codes "U1") 1 (codes "V") ∷ items.Put (codes "U1") 1 (codes "V") ∷ items.Put (codes "U1") 1 (codes "V") ∷ items.Put (codes "U1") 1 (codes "V") ∷ items.Put (codes "U1") 1 (codes "V") ∷ items.Put (codes "U1") 1 (codes "V") ∷ items.Put (codes "U1") 1 (codes "V") ∷ items.Put (codes "U1") 1 (codes "V") ∷ items.Put (codes "U1") 1 (codes "V") ∷ items.Put (codes "U1") 1 (codes "V") ∷ items.Put (codes "U1") 1 (codes "V") ∷ items.Put (codes "U1") 1 (codes "V") ∷ items.Put (codes "U1") 1 (codes "V") ∷ items.Put (codes "U1") 1 (codes "V") ∷ items.Put (codes "U1") 1 (codes "V") ∷ items.Put (codes "U1") 1 (codes "V") ∷ items.Put (codes "U1") 1 (codes "V") ∷ items.Put (codes "U1") 1 (codes "V") ∷ items.Put (codes "U1") 1 (codes "V") ∷ items.Put (codes "U1") 1 (codes "V") ∷ items.Put (codes "U1") 1 (codes "V") ∷ items.Put (codes "U1") 1 (codes "V") ∷ items.Put (codes "U1") 1 (codes "V") ∷ items.Put (codes "U1") 1 (codes "V") ∷ items.Put (codes "U1") 1 (codes "V") ∷ items.Put (codes "U1") 1 (codes "V") ∷ items.Put (codes "U1") 1 (codes "V") ∷ items.Put (codes "U1") 1 (codes "V") ∷ items.Put (codes "U1") 1 (codes "V") ∷ items.Put (codes "U1") 1 (codes "V") ∷ items.Put (codes "U1") 1 (codes "V") ∷ items.Put (codes "U1") 1 (codes "V") ∷ items.Put (codes "U1") 1 (codes "V") ∷ items.Put (codes "U1") 1 (codes "V") ∷ items.Commit (codes "U1") ∷ [];
+  work_b = [];
+}
+
 abbrev pub choices : List Choice
 choices =
     choice.StartActive site.A ∷
@@ -712,14 +710,14 @@ trace =
 
 abbrev pub told : Told
 told = record {
-      answers_a = Some answer.Done ∷ Some answer.Done ∷ Some answer.Done ∷ Some answer.Done ∷ Some answer.Done ∷ Some answer.Done ∷ Some answer.Done ∷ Some answer.Done ∷ Some answer.Done ∷ Some answer.Done ∷ Some answer.Done ∷ Some answer.Done ∷ Some answer.Done ∷ Some answer.Done ∷ Some answer.Done ∷ Some answer.Done ∷ Some answer.Done ∷ Some answer.Done ∷ Some answer.Done ∷ Some answer.Done ∷ Some answer.Done ∷ Some answer.Done ∷ Some answer.Done ∷ Some answer.Done ∷ Some answer.Done ∷ Some answer.Done ∷ Some answer.Done ∷ Some answer.Done ∷ Some answer.Done ∷ Some answer.Done ∷ Some answer.Done ∷ Some answer.Done ∷ Some answer.Done ∷ Some answer.Done ∷ Some answer.Done ∷ Some answer.Done ∷ Some answer.Done ∷ Some answer.Done ∷ Some answer.Done ∷ Some answer.Done ∷ Some answer.Done ∷ Some answer.Done ∷ Some answer.Done ∷ Some answer.Done ∷ Some answer.Done ∷ Some answer.Done ∷ Some answer.Done ∷ Some answer.Done ∷ Some answer.Done ∷ Some answer.Done ∷ Some answer.Done ∷ Some answer.Done ∷ Some answer.Done ∷ Some answer.Done ∷ Some answer.Done ∷ Some answer.Done ∷ Some answer.Done ∷ Some answer.Done ∷ Some answer.Done ∷ Some answer.Done ∷ Some answer.Done ∷ Some answer.Done ∷ Some answer.Done ∷ Some answer.Done ∷ Some answer.LogFull ∷ Some answer.Done ∷ [];
-      answers_b = [];
-      tick = 0;
-      held = (of_parts 1 1 (Some (record { inc = 1; site = site.A; state = state.Running })) None None);
-      records = 64;
-      done = 1;
-      undone = 0;
-      file = (Some (Some (codes "V")) ∷ []) ++ replicate 15 (Some None);
-      table_a = [];
-      table_b = []
-    }
+  answers_a = Some answer.Done ∷ Some answer.Done ∷ Some answer.Done ∷ Some answer.Done ∷ Some answer.Done ∷ Some answer.Done ∷ Some answer.Done ∷ Some answer.Done ∷ Some answer.Done ∷ Some answer.Done ∷ Some answer.Done ∷ Some answer.Done ∷ Some answer.Done ∷ Some answer.Done ∷ Some answer.Done ∷ Some answer.Done ∷ Some answer.Done ∷ Some answer.Done ∷ Some answer.Done ∷ Some answer.Done ∷ Some answer.Done ∷ Some answer.Done ∷ Some answer.Done ∷ Some answer.Done ∷ Some answer.Done ∷ Some answer.Done ∷ Some answer.Done ∷ Some answer.Done ∷ Some answer.Done ∷ Some answer.Done ∷ Some answer.Done ∷ Some answer.Done ∷ Some answer.Done ∷ Some answer.Done ∷ Some answer.Done ∷ Some answer.Done ∷ Some answer.Done ∷ Some answer.Done ∷ Some answer.Done ∷ Some answer.Done ∷ Some answer.Done ∷ Some answer.Done ∷ Some answer.Done ∷ Some answer.Done ∷ Some answer.Done ∷ Some answer.Done ∷ Some answer.Done ∷ Some answer.Done ∷ Some answer.Done ∷ Some answer.Done ∷ Some answer.Done ∷ Some answer.Done ∷ Some answer.Done ∷ Some answer.Done ∷ Some answer.Done ∷ Some answer.Done ∷ Some answer.Done ∷ Some answer.Done ∷ Some answer.Done ∷ Some answer.Done ∷ Some answer.Done ∷ Some answer.Done ∷ Some answer.Done ∷ Some answer.Done ∷ Some answer.LogFull ∷ Some answer.Done ∷ [];
+  answers_b = [];
+  tick = 0;
+  held = (of_parts 1 1 (Some (record { inc = 1; site = site.A; state = state.Running })) None None);
+  records = 64;
+  done = 1;
+  undone = 0;
+  file = (Some (Some (codes "V")) ∷ []) ++ replicate 15 (Some None);
+  table_a = [];
+  table_b = [];
+}

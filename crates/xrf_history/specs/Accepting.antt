@@ -1,5 +1,5 @@
 -- Which choices reach a job: ABEND, REPLY, CEBT and EXIT, by what the job is.
-use Rattle.std.specs.Prelude.{ℕ, Bool, true, false, ◌&&◌, ◌||◌, not, is_none, List, Option, Some, None}
+use Rattle.std.specs.Prelude.{Bool, true, false, ◌&&◌, ◌||◌, not, is_none, List, Option, Some, None}
 use Rattle.xrf_exit.specs.declared.Notice.{Notice}
 use Rattle.xrf_exit.specs.declared.ExitAnswer.{ExitAnswer}
 use Rattle.xrf_exit.specs.Exit.{is_allowed}

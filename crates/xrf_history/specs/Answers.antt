@@ -1,11 +1,11 @@
 -- Which answer fits which act, and what event an answer is.
-use Rattle.std.specs.Prelude.{ℕ, Bool, true, false, not, List, [], ◌∷◌, IsTrue}
+use Rattle.std.specs.Prelude.{ℕ, Bool, true, false, not, List, IsTrue}
 use Rattle.xrf_history.specs.declared.settings.Settings.{Settings}
 use Rattle.xrf_history.specs.declared.want.Want.{Want}
 use Rattle.xrf_history.specs.declared.want.Want.TheVariants as want
 use Rattle.xrf_history.specs.declared.answer.Answer.{Answer}
 use Rattle.xrf_history.specs.declared.answer.Answer.TheVariants as answer
-use Rattle.xrf_history.specs.Events.{Event, StartedActive, StartedStandby, Ticked, Abended, Replied, Commanded, Exited, Reserved, ControlRead, ControlWritten, Released, Signalled1, Signalled2, Looked1, Looked2, DecisionMade, MessageRead, MessageClosed, MessageBodied, MessageOpened, FirstBlockRead, BlockRead, LogLooked, LogClosed, LogBodied, LogOpened, KeyLooked, KeyClosed, KeyBodied, KeyOpened, RecordRead, RecordWritten, RecordUndone, Given, LineIssued, RestartDeclared, EndedAs, ActFailed}
+use Rattle.xrf_history.specs.Events.{Event, Ticked, Abended, Replied, Commanded, Exited, Reserved, ControlRead, ControlWritten, Released, Signalled1, Signalled2, Looked1, Looked2, DecisionMade, MessageRead, MessageClosed, MessageBodied, MessageOpened, FirstBlockRead, BlockRead, LogLooked, LogClosed, LogBodied, LogOpened, KeyLooked, KeyClosed, KeyBodied, KeyOpened, RecordRead, RecordWritten, RecordUndone, Given, LineIssued, RestartDeclared, EndedAs, ActFailed}
 use Rattle.xrf_history.specs.Restarting.{has_read_block}
 use Rattle.xrf_history.specs.Deciding.{cause}
 use Rattle.xrf_history.specs.Next.{next}

@@ -1,6 +1,6 @@
 -- The cause of a decision: the first row of its table that applies, in an alternate that is not waiting, in
 -- one that is waiting, or in an owner.
-use Rattle.std.specs.Prelude.{ℕ, Bool, true, false, ◌&&◌, ◌||◌, not, if◌then◌else◌, List, [], ◌∷◌}
+use Rattle.std.specs.Prelude.{ℕ, Bool, true, false, ◌&&◌, ◌||◌, not, List, [], ◌∷◌}
 use Rattle.xrf_base.specs.declared.site.Takeovr.{Takeovr}
 use Rattle.xrf_cavm.specs.declared.known.Known.{Known}
 use Rattle.xrf_cavm.specs.declared.decisions.Mode.{Mode}
@@ -76,20 +76,22 @@ has_go p (_ ∷ h) = has_go p h
 -- what a tracking alternate goes by
 abbrev pub mode_of : Settings → List Event → Mode
 mode_of p h = record {
-      takeovr = takeovr p h;
-      adi = p.adi;
-      surveillance = surveillance h;
-      commanded = takeover_commanded h;
-      shutdown = shutdown_commanded h;
-      asked = is_asked p h;
-      go = has_go p h
-    }
+  takeovr = takeovr p h;
+  adi = p.adi;
+  surveillance = surveillance h;
+  commanded = takeover_commanded h;
+  shutdown = shutdown_commanded h;
+  asked = is_asked p h;
+  go = has_go p h;
+}
 
 -- the decision at a DECIDE that is handed what is confirmed and its tick
 abbrev pub cause : Settings → List Event → Known → ℕ → Decided
 cause p h known at =
     elim (is_owner h) [
-      true ↦ Owner (decide_active (change h) (record_seen h) (epoch h) p.pdi at)
-    | false ↦ elim (is_waiting h) [
-        true ↦ Waiting (decide_waiting (record_seen h) known)
-      | false ↦ Alternate (decide (change h) (record_seen h) (number h) (mode_of p h) at) ] ]
+      | true ↦ Owner (decide_active (change h) (record_seen h) (epoch h) p.pdi at)
+      | false ↦ elim (is_waiting h) [
+        | true ↦ Waiting (decide_waiting (record_seen h) known)
+        | false ↦ Alternate (decide (change h) (record_seen h) (number h) (mode_of p h) at)
+      ]
+    ]

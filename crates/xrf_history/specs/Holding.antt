@@ -1,6 +1,5 @@
 -- What a job is: an active or an alternate, its incarnation, and how far it has come.
 use Rattle.std.specs.Prelude.{ℕ, Bool, true, false, ◌&&◌, ◌||◌, not, is_some, if◌then◌else◌, List, [], ◌∷◌}
-use Rattle.xrf_ctl.specs.Control.{ControlRecord}
 use Rattle.xrf_cavm.specs.Record.{is_owner as names_owner}
 use Rattle.xrf_history.specs.Events.{Event, StartedActive, ControlWritten, RestartDeclared}
 

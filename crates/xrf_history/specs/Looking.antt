@@ -1,11 +1,11 @@
 -- Loss of signal: the looks of a job, and the tick of the last change.
-use Rattle.std.specs.Prelude.{ℕ, Bool, true, false, List, [], ◌∷◌, Option, Some, None}
+use Rattle.std.specs.Prelude.{ℕ, Bool, true, false, List, [], ◌∷◌, Option, None}
 use Rattle.xrf_ctl.specs.Control.{ControlRecord, empty}
 use Rattle.xrf_ctl.specs.Signal.{SignalRecord}
 use Rattle.xrf_cavm.specs.Watch.{Told, Looked, Reset, changes, latest, is_lost}
 use Rattle.xrf_cavm.specs.declared.decisions.Acting.TheVariants as acting
 use Rattle.xrf_cavm.specs.declared.decisions.Decided.{Decided}
-use Rattle.xrf_cavm.specs.declared.decisions.Decided.TheVariants.{Alternate, Waiting, Owner}
+use Rattle.xrf_cavm.specs.declared.decisions.Decided.TheVariants.{Owner}
 use Rattle.xrf_cebt.specs.declared.commands.Cebt.{Cebt}
 use Rattle.xrf_cebt.specs.declared.commands.Cebt.TheVariants.{SetSurveillance}
 use Rattle.xrf_exit.specs.declared.ExitAnswer.{ExitAnswer}

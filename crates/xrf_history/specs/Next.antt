@@ -18,7 +18,7 @@ use Rattle.xrf_history.specs.Holding.{number, is_restarted}
 use Rattle.xrf_history.specs.Reserving.{purpose, record_read, known_read, record_for, end_for}
 use Rattle.xrf_history.specs.Notices.{epoch_number}
 use Rattle.xrf_history.specs.Restarting.{backouts_left}
-use Rattle.xrf_history.specs.Working.{ledger, last_plan, rolled_left, next_keypoint}
+use Rattle.xrf_history.specs.Working.{last_plan, rolled_left, next_keypoint}
 use Rattle.xrf_history.specs.Sending.{message_due}
 use Rattle.xrf_history.specs.Rows.{rounds, signal_of, log_write, boundary}
 

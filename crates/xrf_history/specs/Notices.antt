@@ -2,7 +2,7 @@
 use Rattle.std.specs.Prelude.{ℕ, Bool, true, false, ◌&&◌, is_some, is_none, if◌then◌else◌, List, [], ◌∷◌, Option, Some, None}
 use Rattle.xrf_cavm.specs.declared.decisions.Acting.TheVariants as acting
 use Rattle.xrf_cavm.specs.declared.decisions.Decided.{Decided}
-use Rattle.xrf_cavm.specs.declared.decisions.Decided.TheVariants.{Alternate, Waiting, Owner}
+use Rattle.xrf_cavm.specs.declared.decisions.Decided.TheVariants.{Owner}
 use Rattle.xrf_exit.specs.declared.Notice.{Notice}
 use Rattle.xrf_exit.specs.declared.Notice.TheVariants.{TakeoverSeen, AlternateLost}
 use Rattle.xrf_history.specs.Events.{Event, Exited, Released, DecisionMade}

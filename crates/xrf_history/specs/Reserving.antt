@@ -16,7 +16,7 @@ use Rattle.xrf_cavm.specs.declared.decisions.Why.TheVariants as why
 use Rattle.xrf_cavm.specs.declared.decisions.Decision.TheVariants as decision
 use Rattle.xrf_cavm.specs.declared.decisions.Waiting.TheVariants as waiting
 use Rattle.xrf_cavm.specs.declared.decisions.Decided.{Decided}
-use Rattle.xrf_cavm.specs.declared.decisions.Decided.TheVariants.{Alternate, Waiting, Owner}
+use Rattle.xrf_cavm.specs.declared.decisions.Decided.TheVariants.{Alternate, Waiting}
 use Rattle.xrf_cavm.specs.Grants.{grant_active, grant_standby}
 use Rattle.xrf_cavm.specs.Writes.{sign_off, start_takeover, let_through, leave, drop_alternate}
 use Rattle.xrf_exit.specs.declared.ExitAnswer.TheVariants as exit
@@ -133,8 +133,9 @@ purpose_of_alternate None None = GoThrough
 abbrev pub purpose_now : List Event → Purpose
 purpose_now h =
     elim (is_granted h) [
-      false ↦ elim (starts_active h) [ true ↦ SignOnActive | false ↦ SignOnStandby ]
-    | true ↦ elim (is_owner h) [ true ↦ purpose_of_owner (sign_off_due h) | false ↦ purpose_of_alternate (leaves h) (start_due h) ] ]
+      | false ↦ elim (starts_active h) [ true ↦ SignOnActive | false ↦ SignOnStandby ]
+      | true ↦ elim (is_owner h) [ true ↦ purpose_of_owner (sign_off_due h) | false ↦ purpose_of_alternate (leaves h) (start_due h) ]
+    ]
 
 -- what the last RESERVE was made for
 abbrev pub purpose : List Event → Purpose

@@ -1,5 +1,5 @@
 -- The rows of the step table: what a job does next at a boundary. The first row that applies gives the act.
-use Rattle.std.specs.Prelude.{ℕ, ◌+◌, ◌%◌, Bool, true, false, ◌&&◌, not, nat_lt, nat_le, is_some, List, [], ◌∷◌, Option, Some, None}
+use Rattle.std.specs.Prelude.{ℕ, ◌+◌, ◌%◌, Bool, true, false, ◌&&◌, not, nat_lt, nat_le, List, [], ◌∷◌, Option, Some, None}
 use Rattle.xrf_base.specs.declared.items.UnitId.{UnitId}
 use Rattle.xrf_ctl.specs.Signal.{SignalRecord, of_numbers}
 use Rattle.xrf_ctl.specs.declared.parts.OwnerState.{OwnerState}
@@ -18,7 +18,7 @@ use Rattle.xrf_history.specs.declared.want.EndWhy.TheVariants as end
 use Rattle.xrf_cavm.specs.declared.decisions.Decision.TheVariants as decision
 use Rattle.xrf_cavm.specs.declared.decisions.Waiting.TheVariants as waiting
 use Rattle.xrf_cavm.specs.declared.decisions.Decided.{Decided}
-use Rattle.xrf_cavm.specs.declared.decisions.Decided.TheVariants.{Alternate, Waiting, Owner}
+use Rattle.xrf_cavm.specs.declared.decisions.Decided.TheVariants.{Alternate, Waiting}
 use Rattle.xrf_history.specs.Events.{Event, Ticked, Signalled1, DecisionMade, MessageRead, LineIssued}
 use Rattle.xrf_history.specs.Holding.{number, is_granted, is_owner, is_waiting, is_restarted}
 use Rattle.xrf_history.specs.Taking.{expected, gives, is_draining}
@@ -73,8 +73,9 @@ undo_next p h (row ∷ rows) = want.Undo row.rrn row.before
 abbrev pub restart_next : Settings → List Event → Want
 restart_next p h =
     elim (scan p h).ended [
-      false ↦ want.LogRead (scan p h).block
-    | true ↦ undo_next p h (rows_left p h) ]
+      | false ↦ want.LogRead (scan p h).block
+      | true ↦ undo_next p h (rows_left p h)
+    ]
 
 -- A message is due and may be written, or it waits for the cursor. Else a keypoint is due, or the next item.
 abbrev pub message_next : Settings → List Event → Message → Want
@@ -83,8 +84,9 @@ message_next p h message = elim (may_write p h) [ true ↦ want.MsgRead (number_
 abbrev pub work_next : Settings → List Event → Want
 work_next p h =
     elim (keypoint_due p h) [
-      true ↦ want.KpRead ((next_keypoint p h).number % 2)
-    | false ↦ want.Item ]
+      | true ↦ want.KpRead ((next_keypoint p h).number % 2)
+      | false ↦ want.Item
+    ]
 
 abbrev pub active_next : Settings → List Event → Option Message → Want
 active_next p h (Some message) = message_next p h message
@@ -94,10 +96,19 @@ active_next p h None = work_next p h
 -- messages, the keypoint and the work.
 abbrev pub owner_works : Settings → List Event → Want
 owner_works p h =
-    elim (drop_due h) [ true ↦ want.Reserve | false ↦
-    elim (round_due h) [ true ↦ want.Signal1 (signal_of h (rounds h + 1)) | false ↦
-    elim (is_draining h) [ true ↦ want.MsgRead (reading_place p h) | false ↦
-    elim (is_restarted h) [ false ↦ restart_next p h | true ↦ active_next p h (message_due p h) ] ] ] ]
+    elim (drop_due h) [
+      | true ↦ want.Reserve
+      | false ↦
+          elim (round_due h) [
+            | true ↦ want.Signal1 (signal_of h (rounds h + 1))
+            | false ↦
+                elim (is_draining h) [
+                  | true ↦ want.MsgRead (reading_place p h)
+                  | false ↦
+                      elim (is_restarted h) [ false ↦ restart_next p h | true ↦ active_next p h (message_due p h) ]
+                ]
+          ]
+    ]
 
 abbrev pub owner_row : Settings → List Event → Option OwnerState → Option Notice → Want
 owner_row p h (Some state) pending = want.Reserve
@@ -127,9 +138,15 @@ lines_issued (_ ∷ h) = lines_issued h
 -- takeover, the through, the round, and the messages to read.
 abbrev pub alternate_tracks : Settings → List Event → Want
 alternate_tracks p h =
-    elim (through_due h) [ true ↦ want.Reserve | false ↦
-    elim (round_due h) [ true ↦ want.Signal1 (signal_of h (rounds h + 1)) | false ↦
-    elim (reading_due h) [ true ↦ want.MsgRead (reading_place p h) | false ↦ want.Nothing ] ] ]
+    elim (through_due h) [
+      | true ↦ want.Reserve
+      | false ↦
+          elim (round_due h) [
+            | true ↦ want.Signal1 (signal_of h (rounds h + 1))
+            | false ↦
+                elim (reading_due h) [ true ↦ want.MsgRead (reading_place p h) | false ↦ want.Nothing ]
+          ]
+    ]
 
 abbrev pub alternate_starts : Settings → List Event → Option Cause → Want
 alternate_starts p h (Some cause) = want.Reserve

@@ -1,6 +1,5 @@
 -- The messages that an owner sends to the alternate of its epoch.
-use Rattle.std.specs.Prelude.{ℕ, ◌+◌, ◌-◌, ◌==◌, Bool, true, false, ◌||◌, nat_lt, nat_le, if◌then◌else◌, List, [], ◌∷◌, length, filter, slice_get, Option, Some, None}
-use Rattle.std.specs.Option.{option_map}
+use Rattle.std.specs.Prelude.{ℕ, ◌+◌, ◌-◌, ◌==◌, Bool, true, false, ◌||◌, nat_lt, if◌then◌else◌, List, [], ◌∷◌, filter, slice_get, Option, Some, None}
 use Rattle.xrf_base.specs.declared.items.Item.{Item}
 use Rattle.xrf_base.specs.declared.items.Item.TheVariants as items
 use Rattle.xrf_base.specs.declared.items.ItemAnswer.{ItemAnswer}
@@ -10,7 +9,7 @@ use Rattle.xrf_ctl.specs.declared.parts.Level.TheVariants.{One, Two}
 use Rattle.xrf_ctl.specs.Signal.{SignalRecord}
 use Rattle.xrf_cavm.specs.declared.decisions.Acting.TheVariants as acting
 use Rattle.xrf_cavm.specs.declared.decisions.Decided.{Decided}
-use Rattle.xrf_cavm.specs.declared.decisions.Decided.TheVariants.{Alternate, Waiting, Owner}
+use Rattle.xrf_cavm.specs.declared.decisions.Decided.TheVariants.{Owner}
 use Rattle.xrf_msg.specs.declared.messages.Message.{Message}
 use Rattle.xrf_msg.specs.declared.messages.Message.TheVariants.{Begin, Term, End, User}
 use Rattle.xrf_msg.specs.Messages.{is_tracked}
@@ -134,8 +133,9 @@ abbrev pub message_due_in : Settings → Option ℕ → List Event → Option Me
 message_due_in p None h = None
 message_due_in p (Some n) h =
     elim (is_end_sent h) [
-      true ↦ message_of_change p n (sent h) h
-    | false ↦ Some (message_of_catch_up p n (sent h) (table p h)) ]
+      | true ↦ message_of_change p n (sent h) h
+      | false ↦ Some (message_of_catch_up p n (sent h) (table p h))
+    ]
 
 abbrev pub message_due : Settings → List Event → Option Message
 message_due p h = message_due_in p (epoch h) h

@@ -1,8 +1,7 @@
 -- The terminal table of a job.
-use Rattle.std.specs.Prelude.{ℕ, List, [], ◌∷◌, length, Option, Some, None, if◌then◌else◌, Bool, true, false}
+use Rattle.std.specs.Prelude.{List, [], ◌∷◌, Option, Some, None, if◌then◌else◌}
 use Rattle.xrf_base.specs.declared.items.Item.{Item}
 use Rattle.xrf_base.specs.declared.items.Item.TheVariants as items
-use Rattle.xrf_base.specs.declared.items.ItemAnswer.{ItemAnswer}
 use Rattle.xrf_base.specs.declared.items.ItemAnswer.TheVariants.{Done}
 use Rattle.xrf_msg.specs.declared.messages.Message.{Message}
 use Rattle.xrf_msg.specs.Numbers.{given}

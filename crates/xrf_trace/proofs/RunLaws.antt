@@ -1,8 +1,7 @@
 -- What holds of every run.
-use Rattle.std.proofs.Common.{◌≡◌, ℕ, zero, suc, ◌+◌, ◌≤◌, Bool, true, false, List, [], ◌∷◌, ◌++◌, length, map, reverse, take, slice_get, append_assoc, Option, Some, None, Result, Ok, Err, IfSome, IfOk, nat_lt, refl, sym, ◌∙◌, ap, arith, subst, if◌then◌else◌}
+use Rattle.std.proofs.Common.{◌≡◌, ℕ, suc, ◌+◌, Bool, true, false, List, [], ◌∷◌, ◌++◌, length, map, reverse, take, slice_get, append_assoc, Option, Some, None, Result, Ok, Err, IfSome, IfOk, nat_lt, refl, sym, ◌∙◌, ap, arith, subst, if◌then◌else◌}
 use Rattle.std.proofs.lemmas.Grind.{common_steps}
-use Rattle.std.proofs.lemmas.List.{reverse-append, map-append}
-use Rattle.std.specs.Option.{option_map_or}
+use Rattle.std.proofs.lemmas.List.{map-append}
 use Rattle.xrf_base.specs.declared.site.Site.{Site}
 use Rattle.xrf_base.specs.declared.site.Site.TheVariants as site
 use Rattle.xrf_logrec.proofs.Lists.{reverse-cons}
@@ -14,7 +13,6 @@ use Rattle.xrf_history.specs.Next.{next}
 use Rattle.xrf_history.specs.Accepting.{may_command}
 use Rattle.xrf_trace.specs.declared.choice.Choice.{Choice}
 use Rattle.xrf_trace.specs.declared.choice.Choice.TheVariants as choice
-use Rattle.xrf_trace.specs.declared.choice.Landing.{Landing}
 use Rattle.xrf_trace.specs.declared.entry.Entry.{Entry}
 use Rattle.xrf_trace.specs.declared.entry.Act.{Act}
 use Rattle.xrf_trace.specs.declared.entry.Act.TheVariants as act
@@ -219,14 +217,14 @@ run_from-after s t place c cs e trace is after =
 refused-later : (s : Scen) (t : List Entry) (place : ℕ) (c : Choice) (cs : List Choice) (e : Entry) (r : Refusal) → outcome s t c ≡ Ok e
     → RefusedOn s (e ∷ t) (place + 1) cs r → RefusedOn s t place (c ∷ cs) r
 refused-later s t place c cs e r is later = record {
-      done = suc later.done;
-      at = omega (arith, later.at);
-      trace = later.trace;
-      refused = later.refused;
-      before = run_from-after s t place c (take later.done cs) e later.trace is later.before;
-      there = later.there;
-      reason = later.reason
-    }
+  done = suc later.done;
+  at = omega (arith, later.at);
+  trace = later.trace;
+  refused = later.refused;
+  before = run_from-after s t place c (take later.done cs) e later.trace is later.before;
+  there = later.there;
+  reason = later.reason;
+}
 
 abbrev goes_on : Scen → List Entry → ℕ → List Choice → Result Entry Refused → Result (List Entry) Refusal
 goes_on s t place cs o = elim o [ Ok e ↦ run_from s (e ∷ t) (place + 1) cs | Err why ↦ Err (record { place = place; reason = why }) ]
@@ -252,5 +250,5 @@ refusals_are_first s cs r same =
       refused = on.refused;
       before = subst (λ (n : ℕ). run s (take n cs) ≡ Ok on.trace) at on.before;
       there = subst (λ (n : ℕ). slice_get cs n ≡ Some on.refused) at on.there;
-      reason = on.reason
+      reason = on.reason;
     }

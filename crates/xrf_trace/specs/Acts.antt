@@ -1,6 +1,5 @@
 -- The next act of a site, and what kind of act it is.
 use Rattle.std.specs.Prelude.{ℕ, ◌+◌, Bool, true, false, ◌||◌, nat_lt, is_some, if◌then◌else◌, List, length, Option, Some, None}
-use Rattle.std.specs.Option.{option_and_then}
 use Rattle.xrf_base.specs.declared.site.Site.{Site}
 use Rattle.xrf_history.specs.declared.want.Want.{Want}
 use Rattle.xrf_history.specs.declared.want.Want.TheVariants as want

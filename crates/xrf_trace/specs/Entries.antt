@@ -1,6 +1,5 @@
 -- The entry that an accepted choice adds.
-use Rattle.std.specs.Prelude.{ℕ, ◌+◌, Bool, true, false, if◌then◌else◌, List, [], ◌∷◌, Option, Some, None}
-use Rattle.std.specs.Option.{option_map_or}
+use Rattle.std.specs.Prelude.{ℕ, ◌+◌, if◌then◌else◌, List, ◌∷◌, Option, Some, None}
 use Rattle.xrf_base.specs.declared.site.Site.{Site}
 use Rattle.xrf_cebt.specs.declared.commands.Cebt.{Cebt}
 use Rattle.xrf_cebt.specs.declared.replies.CebtReply.{CebtReply}
@@ -10,7 +9,6 @@ use Rattle.xrf_history.specs.Holding.{number, is_granted, is_waiting}
 use Rattle.xrf_history.specs.Deciding.{takeovr, surveillance}
 use Rattle.xrf_trace.specs.declared.choice.Choice.{Choice}
 use Rattle.xrf_trace.specs.declared.choice.Choice.TheVariants as choice
-use Rattle.xrf_trace.specs.declared.choice.Landing.{Landing}
 use Rattle.xrf_trace.specs.declared.entry.Entry.{Entry}
 use Rattle.xrf_trace.specs.declared.entry.Act.{Act}
 use Rattle.xrf_trace.specs.declared.entry.Act.TheVariants as act

@@ -1,5 +1,5 @@
 -- File is the book: at each RESTARTED the file is the book, and no unit is in flight.
-use Rattle.std.specs.Prelude.{◌≡◌, ℕ, ◌≤◌, Bool, true, false, List, [], ◌∷◌, map}
+use Rattle.std.specs.Prelude.{◌≡◌, ℕ, ◌≤◌, Bool, true, false, List, [], map}
 use Rattle.std.specs.List.{range_with_len}
 use Rattle.xrf_base.specs.Values.{slot_of}
 use Rattle.xrf_log.specs.Flight.{flight}

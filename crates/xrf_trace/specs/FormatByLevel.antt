@@ -1,7 +1,6 @@
 -- Format by level: a job of level 1 meets format 1 alone, and the format is 2 exactly where a job of level 2
 -- became owner.
-use Rattle.std.specs.Prelude.{◌≡◌, ℕ, Bool, true, false, ◌&&◌, ◌||◌, if◌then◌else◌, List, [], ◌∷◌}
-use Rattle.xrf_base.specs.declared.site.Site.{Site}
+use Rattle.std.specs.Prelude.{◌≡◌, Bool, true, false, ◌&&◌, ◌||◌, if◌then◌else◌, List, [], ◌∷◌}
 use Rattle.xrf_base.specs.declared.site.Site.TheVariants as site
 use Rattle.xrf_ctl.specs.declared.parts.Level.{Level}
 use Rattle.xrf_ctl.specs.declared.parts.Level.TheVariants.{One, Two}

@@ -1,5 +1,5 @@
 -- The units of a site, and what its items are answered, as the trace has them.
-use Rattle.std.specs.Prelude.{ℕ, ◌==◌, Bool, true, false, ◌&&◌, not, List, [], ◌∷◌, length, filter, Option, Some, None}
+use Rattle.std.specs.Prelude.{ℕ, ◌==◌, Bool, true, false, ◌&&◌, List, [], ◌∷◌, length, filter, Option, Some, None}
 use Rattle.std.specs.List.{list_any}
 use Rattle.std.specs.Option.{option_map_or}
 use Rattle.xrf_base.specs.declared.site.Site.{Site}
@@ -58,15 +58,15 @@ number_of_job job = option_map_or number job 0
 -- units, and the Puts that the log has of them.
 abbrev pub ledger_by : Scen → List Entry → Site → Opened → Ledger
 ledger_by s t x o = record {
-      slots = s.limits.log;
-      records = s.limits.file;
-      inc = number_of_job (hist s t x);
-      begun = o.begun;
-      next = length (log t);
-      start = start t;
-      units = o.units;
-      puts = filter (is_open_unit o.units) (numbered (log t))
-    }
+  slots = s.limits.log;
+  records = s.limits.file;
+  inc = number_of_job (hist s t x);
+  begun = o.begun;
+  next = length (log t);
+  start = start t;
+  units = o.units;
+  puts = filter (is_open_unit o.units) (numbered (log t));
+}
 
 -- The k-th BEGIN of a job that is answered Done opens its unit of serial k. A unit is open until its COMMIT or
 -- ROLL is answered Done, or its job is gone.
@@ -132,8 +132,9 @@ abbrev pub answer_at_item : Scen → List Entry → Site → Option Item → Opt
 answer_at_item s t x None = None
 answer_at_item s t x (Some item) =
     elim (is_unit_item item) [
-      true ↦ answer_of_plan (plan_at s t x (Some item))
-    | false ↦ answer_of_terminals s x item (hist s t x) ]
+      | true ↦ answer_of_plan (plan_at s t x (Some item))
+      | false ↦ answer_of_terminals s x item (hist s t x)
+    ]
 
 -- a GET is answered by the slot that its FILEREAD was handed
 abbrev pub answer_of_get : Plan → List ℕ → Option ItemAnswer
@@ -166,5 +167,6 @@ abbrev pub answer : Scen → List Entry → Site → ℕ → Option ItemAnswer
 answer s [] x k = None
 answer s (e ∷ t) x k =
     elim (is_of e.who x && is_full e.land && items_taken (e ∷ t) x == k) [
-      true ↦ or_before (answer_by s t x e.act) (answer s t x k)
-    | false ↦ answer s t x k ]
+      | true ↦ or_before (answer_by s t x e.act) (answer s t x k)
+      | false ↦ answer s t x k
+    ]

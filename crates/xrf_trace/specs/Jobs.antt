@@ -24,9 +24,9 @@ use Rattle.xrf_trace.specs.Devices.{control, sector1, sector2, message_slot, log
 -- whether the owner and the alternate of a record are confirmed
 abbrev pub known_of : List Entry → ControlRecord → Known
 known_of t r = record {
-      owner = is_some r.owner && confirmed t (inc_of_owner r.owner);
-      alt = is_some r.alt && confirmed t (inc_of_alt r.alt)
-    }
+  owner = is_some r.owner && confirmed t (inc_of_owner r.owner);
+  alt = is_some r.alt && confirmed t (inc_of_alt r.alt);
+}
 
 -- an act on a message slot
 abbrev pub is_on_message : Act → Bool

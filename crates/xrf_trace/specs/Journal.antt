@@ -1,5 +1,5 @@
 -- The choices that a journal determines: each entry tells the choice that added it.
-use Rattle.std.specs.Prelude.{◌≡◌, List, [], ◌∷◌, map, reverse, Ok}
+use Rattle.std.specs.Prelude.{List, map, reverse}
 use Rattle.xrf_base.specs.declared.site.Site.{Site}
 use Rattle.xrf_base.specs.declared.site.Site.TheVariants as site
 use Rattle.xrf_trace.specs.declared.choice.Choice.{Choice}
@@ -11,8 +11,6 @@ use Rattle.xrf_trace.specs.declared.entry.Land.{Land}
 use Rattle.xrf_trace.specs.declared.entry.Land.TheVariants as land
 use Rattle.xrf_trace.specs.declared.entry.Who.{Who}
 use Rattle.xrf_trace.specs.declared.entry.Who.TheVariants as who
-use Rattle.xrf_trace.specs.Scenario.{Scen}
-use Rattle.xrf_trace.specs.Runs.{outcome, run}
 
 -- an act that is no choice is that of a STEP
 abbrev pub choice_of_act : Site → Act → Choice

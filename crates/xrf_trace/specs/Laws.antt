@@ -1,5 +1,5 @@
 -- What holds of every run.
-use Rattle.std.specs.Prelude.{◌≡◌, ◌↔◌, ℕ, List, [], ◌∷◌, length, take, slice_get, Option, Some, None, Result, Ok, Err, IfOk}
+use Rattle.std.specs.Prelude.{◌≡◌, ◌↔◌, List, ◌∷◌, length, take, slice_get, Some, None, Ok, Err, IfOk}
 use Rattle.xrf_trace.specs.declared.choice.Choice.{Choice}
 use Rattle.xrf_trace.specs.declared.choice.Choice.TheVariants as choice
 use Rattle.xrf_trace.specs.declared.entry.Entry.{Entry}

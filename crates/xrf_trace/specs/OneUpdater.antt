@@ -1,10 +1,8 @@
 -- One updater: the running owner alone updates, and incarnations are given one by one.
 use Rattle.std.specs.Prelude.{◌≡◌, ℕ, ◌+◌, Bool, ◌&&◌, not, List, Option, Some, None}
-use Rattle.xrf_base.specs.declared.site.Site.{Site}
 use Rattle.xrf_base.specs.declared.site.Site.TheVariants as site
 use Rattle.xrf_ctl.specs.declared.parts.Owner.{Owner}
 use Rattle.xrf_ctl.specs.declared.parts.OwnerState.TheVariants.{Running}
-use Rattle.xrf_history.specs.Events.{Event}
 use Rattle.xrf_history.specs.Holding.{is_granted}
 use Rattle.xrf_trace.specs.declared.entry.Entry.{Entry}
 use Rattle.xrf_trace.specs.declared.entry.Act.{Act}

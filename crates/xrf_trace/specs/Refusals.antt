@@ -1,7 +1,6 @@
 -- Which choices are accepted, and why the others are refused.
 use Rattle.std.specs.Prelude.{ℕ, ◌==◌, Bool, true, false, ◌&&◌, not, nat_le, is_some, is_none, List, length, Option, Some, None}
 use Rattle.std.specs.Option.{option_map_or, option_and_then}
-use Rattle.xrf_base.specs.declared.site.Site.{Site}
 use Rattle.xrf_exit.specs.declared.Notice.{Notice}
 use Rattle.xrf_exit.specs.declared.ExitAnswer.{ExitAnswer}
 use Rattle.xrf_exit.specs.Exit.{is_allowed}

@@ -1,5 +1,5 @@
 -- What a trace needs of a scenario.
-use Rattle.std.specs.Prelude.{ℕ, ◌-◌, ◌==◌, Bool, if◌then◌else◌, List, [], ◌∷◌, length, slice_get, Option, Some, None}
+use Rattle.std.specs.Prelude.{ℕ, ◌-◌, ◌==◌, Bool, if◌then◌else◌, List, [], ◌∷◌, slice_get, Option, Some, None}
 use Rattle.xrf_base.specs.declared.limits.Limits.{Limits}
 use Rattle.xrf_base.specs.declared.items.Item.{Item}
 use Rattle.xrf_base.specs.declared.site.Site.{Site}
@@ -45,15 +45,15 @@ item_at s x number = slice_get (work s x) (number - 1)
 -- the settings that a job is started with
 abbrev pub settings : Scen → Site → Settings
 settings s x = record {
-      site = x;
-      limits = s.limits;
-      takeovr = s.takeovr;
-      adi = s.adi;
-      pdi = s.pdi;
-      clt_lines = of_site x s.clt_a s.clt_b;
-      level = of_site x s.level_a s.level_b;
-      force = s.force
-    }
+  site = x;
+  limits = s.limits;
+  takeovr = s.takeovr;
+  adi = s.adi;
+  pdi = s.pdi;
+  clt_lines = of_site x s.clt_a s.clt_b;
+  level = of_site x s.level_a s.level_b;
+  force = s.force;
+}
 
 -- the value of a record of the scenario
 abbrev pub value_in : List (ℕ × List ℕ) → ℕ → Option (List ℕ)

@@ -1,5 +1,5 @@
 -- Silent once seen: an owner that has seen a taking makes no update after it.
-use Rattle.std.specs.Prelude.{◌≡◌, ℕ, Bool, true, false, ◌&&◌, ◌||◌, is_some, List, [], ◌∷◌}
+use Rattle.std.specs.Prelude.{◌≡◌, Bool, false, ◌&&◌, ◌||◌, is_some, List, [], ◌∷◌}
 use Rattle.xrf_history.specs.Events.{Event, ControlRead, Looked1}
 use Rattle.xrf_history.specs.Holding.{is_owner}
 use Rattle.xrf_history.specs.Reserving.{purpose}

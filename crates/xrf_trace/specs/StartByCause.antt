@@ -1,7 +1,6 @@
 -- Start by cause: an alternate decides by its cause, and writes a taking exactly where it decided to start and
 -- the record that it then reads still names it beside an owner that is not OffNormal.
 use Rattle.std.specs.Prelude.{◌≡◌, ℕ, ◌+◌, Bool, true, false, ◌&&◌, not, is_some, is_none, if◌then◌else◌, List, [], ◌∷◌, ◌++◌, Option, Some, None}
-use Rattle.xrf_base.specs.declared.site.Site.{Site}
 use Rattle.xrf_ctl.specs.declared.parts.OwnerState.TheVariants.{OffNormal}
 use Rattle.xrf_ctl.specs.declared.parts.Cause.{Cause}
 use Rattle.xrf_ctl.specs.declared.parts.Taking.{Taking}
@@ -65,8 +64,9 @@ left_if false held = []
 abbrev pub start_sequence : ControlRecord → ℕ → Cause → List Act
 start_sequence held n why =
     elim (lets_start held n) [
-      true ↦ act.CtlWrite (record held { taking = Some (record { inc = n; cause = why }) }) ∷ act.Release ∷ []
-    | false ↦ left_if (is_alt held n) held ++ act.Release ∷ act.Ended end.Abandoned ∷ [] ]
+      | true ↦ act.CtlWrite (record held { taking = Some (record { inc = n; cause = why }) }) ∷ act.Release ∷ []
+      | false ↦ left_if (is_alt held n) held ++ act.Release ∷ act.Ended end.Abandoned ∷ []
+    ]
 
 abbrev pub GoesOn : List Event → Act → Option Cause → Type 0
 GoesOn h a None = Unit {0}

@@ -1,6 +1,6 @@
 -- Table is tracked: right after each RESTARTED the terminal table is the one that the messages of the
 -- incarnation's epoch track, settled.
-use Rattle.std.specs.Prelude.{◌≡◌, ℕ, List, [], ◌∷◌}
+use Rattle.std.specs.Prelude.{◌≡◌, List, [], ◌∷◌}
 use Rattle.xrf_base.specs.declared.site.Site.{Site}
 use Rattle.xrf_terms.specs.Tracking.{settled}
 use Rattle.xrf_history.specs.Events.{Event, RestartDeclared}

@@ -1,5 +1,5 @@
 -- Through by proof: nobody becomes owner beside an owner that may still run.
-use Rattle.std.specs.Prelude.{◌≡◌, ℕ, ◌+◌, Bool, true, false, ◌&&◌, ◌||◌, not, is_some, if◌then◌else◌, List, [], ◌∷◌, Option, Some, None}
+use Rattle.std.specs.Prelude.{◌≡◌, ℕ, ◌+◌, Bool, true, false, ◌&&◌, not, is_some, if◌then◌else◌, List, [], ◌∷◌, Some, None}
 use Rattle.xrf_base.specs.declared.site.Site.{Site}
 use Rattle.xrf_ctl.specs.declared.parts.Level.{Level}
 use Rattle.xrf_ctl.specs.declared.parts.OwnerState.TheVariants.{Running}
@@ -14,7 +14,7 @@ use Rattle.xrf_cavm.specs.Writes.{as_owner}
 use Rattle.xrf_history.specs.declared.want.EndWhy.{EndWhy}
 use Rattle.xrf_history.specs.declared.want.EndWhy.TheVariants as end
 use Rattle.xrf_history.specs.Events.{Event, Ticked, Abended, Replied, Commanded, Exited, Reserved, ControlRead, DecisionMade}
-use Rattle.xrf_history.specs.Holding.{number, is_waiting}
+use Rattle.xrf_history.specs.Holding.{is_waiting}
 use Rattle.xrf_history.specs.Reserving.{Purpose, SignOnActive, purpose, last_decision, is_through_decision, record_read, known_read}
 use Rattle.xrf_history.specs.Looking.{record_seen}
 use Rattle.xrf_trace.specs.declared.entry.Entry.{Entry}
@@ -89,8 +89,9 @@ sign_on_end level held known =
 abbrev pub sign_on_sequence : Site → Level → ControlRecord → Known → List Act
 sign_on_sequence x level held known =
     elim (may_sign_on level held known) [
-      true ↦ act.CtlWrite (sign_on_record x level held) ∷ act.Release ∷ []
-    | false ↦ act.Release ∷ act.Ended (sign_on_end level held known) ∷ [] ]
+      | true ↦ act.CtlWrite (sign_on_record x level held) ∷ act.Release ∷ []
+      | false ↦ act.Release ∷ act.Ended (sign_on_end level held known) ∷ []
+    ]
 
 abbrev pub is_sign_on : Purpose → Bool
 is_sign_on SignOnActive = true

@@ -1,11 +1,10 @@
 -- Throughs, takeovers, and updates.
-use Rattle.std.specs.Prelude.{ℕ, ◌==◌, Bool, true, false, ◌&&◌, not, List, [], ◌∷◌}
+use Rattle.std.specs.Prelude.{◌==◌, Bool, true, false, ◌&&◌, not, List}
 use Rattle.xrf_ctl.specs.Control.{ControlRecord}
 use Rattle.xrf_cavm.specs.Record.{inc_of_owner, is_alt}
 use Rattle.xrf_trace.specs.declared.entry.Entry.{Entry}
 use Rattle.xrf_trace.specs.declared.entry.Act.{Act}
 use Rattle.xrf_trace.specs.declared.entry.Act.TheVariants as act
-use Rattle.xrf_trace.specs.declared.entry.Land.{Land}
 use Rattle.xrf_trace.specs.Landing.{lands}
 use Rattle.xrf_trace.specs.Devices.{control}
 

@@ -1,5 +1,5 @@
 -- The messages of an epoch, and the terminal table that they track.
-use Rattle.std.specs.Prelude.{ℕ, ◌==◌, Bool, ◌&&◌, if◌then◌else◌, List, [], ◌∷◌}
+use Rattle.std.specs.Prelude.{ℕ, ◌==◌, ◌&&◌, if◌then◌else◌, List, [], ◌∷◌}
 use Rattle.xrf_msg.specs.declared.messages.Message.{Message}
 use Rattle.xrf_msg.specs.Messages.{epoch_of}
 use Rattle.xrf_terms.specs.declared.rows.Row.{Row}

@@ -11,3 +11,6 @@ pub use choice::{Choice, Landing};
 pub use entry::{Act, Entry, Land, Refused, Who};
 pub use laws::{books_are_at_each, journals_tell_choices, refusals_change_nothing, runs_are_runs};
 pub use torn::TornBytes;
+
+#[cfg(test)]
+mod tests;

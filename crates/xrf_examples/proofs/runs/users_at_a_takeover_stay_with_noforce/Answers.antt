@@ -4,17 +4,17 @@ use Rattle.xrf_examples.proofs.runs.users_at_a_takeover_stay_with_noforce.Goals 
 
 pub returns-clause-safe : goal.returns-clause-safe
 returns-clause-safe c = record {
-      one_updater = record { updates = search rules; grants = search rules };
-      file_is_book = search rules;
-      table_is_tracked = ((((((((((((((((((((((((((((((((((((((((((((((((((((((((((((((((((((((((((((((((((((tt, tt), tt), tt), tt), tt), tt), tt), tt), tt), tt), tt), (refl, (refl, refl))), tt), tt), tt), tt), tt), tt), tt), tt), tt), tt), tt), tt), tt), tt), tt), tt), tt), tt), tt), tt), tt), tt), tt), tt), tt), tt), tt), tt), tt), tt), tt), tt), tt), tt), tt), tt), tt), tt), tt), tt), tt), tt), tt), tt), tt), tt), tt), tt), tt), tt), tt), tt), tt), tt), tt), tt), tt), tt), tt), tt), tt), tt), tt), tt), tt), tt), tt), tt), tt), tt), tt), (refl, tt));
-      start_by_cause = record { decides = search rules; starts = search rules; only = search rules };
-      through_by_proof = record {
-            waits = search rules;
-            goes = search rules;
-            only = search rules;
-            signs_on = ((((((((((((((((((((((((((((((((((((((((((((((((((((((((((((((((((((((((((((((((((((tt, tt), tt), tt), refl), refl), tt), tt), tt), tt), tt), tt), tt), tt), tt), tt), tt), tt), tt), tt), tt), tt), tt), tt), tt), tt), tt), tt), tt), tt), tt), tt), tt), tt), tt), tt), tt), tt), tt), tt), tt), tt), tt), tt), tt), tt), tt), tt), tt), tt), tt), tt), tt), tt), tt), tt), tt), tt), tt), tt), tt), tt), tt), tt), tt), tt), tt), tt), tt), tt), tt), tt), tt), tt), tt), tt), tt), tt), tt), tt), tt), tt), tt), tt), tt);
-            over_none = search rules
-          };
-      silent_once_seen = search rules;
-      format_by_level = record { meets = ((((((((((((((((((((((((((((((((((((((((((((((((((((((((((((((((((((((((((((((((((((tt, tt), tt), tt), tt), tt), tt), tt), tt), tt), tt), tt), tt), tt), tt), tt), tt), tt), tt), tt), tt), tt), tt), tt), tt), tt), tt), tt), tt), tt), tt), tt), tt), tt), tt), tt), tt), tt), tt), tt), tt), tt), tt), tt), tt), tt), tt), tt), tt), tt), tt), tt), tt), tt), tt), tt), tt), tt), tt), tt), tt), tt), tt), tt), tt), tt), tt), tt), tt), tt), tt), tt), tt), tt), tt), tt), tt), tt), tt), tt), tt), tt), tt), tt), tt); format = search rules }
-    }
+  one_updater = record { updates = search rules; grants = search rules };
+  file_is_book = search rules;
+  table_is_tracked = ((((((((((((((((((((((((((((((((((((((((((((((((((((((((((((((((((((((((((((((((((((tt, tt), tt), tt), tt), tt), tt), tt), tt), tt), tt), tt), (refl, (refl, refl))), tt), tt), tt), tt), tt), tt), tt), tt), tt), tt), tt), tt), tt), tt), tt), tt), tt), tt), tt), tt), tt), tt), tt), tt), tt), tt), tt), tt), tt), tt), tt), tt), tt), tt), tt), tt), tt), tt), tt), tt), tt), tt), tt), tt), tt), tt), tt), tt), tt), tt), tt), tt), tt), tt), tt), tt), tt), tt), tt), tt), tt), tt), tt), tt), tt), tt), tt), tt), tt), tt), tt), (refl, tt));
+  start_by_cause = record { decides = search rules; starts = search rules; only = search rules };
+  through_by_proof = record {
+    waits = search rules;
+    goes = search rules;
+    only = search rules;
+    signs_on = ((((((((((((((((((((((((((((((((((((((((((((((((((((((((((((((((((((((((((((((((((((tt, tt), tt), tt), refl), refl), tt), tt), tt), tt), tt), tt), tt), tt), tt), tt), tt), tt), tt), tt), tt), tt), tt), tt), tt), tt), tt), tt), tt), tt), tt), tt), tt), tt), tt), tt), tt), tt), tt), tt), tt), tt), tt), tt), tt), tt), tt), tt), tt), tt), tt), tt), tt), tt), tt), tt), tt), tt), tt), tt), tt), tt), tt), tt), tt), tt), tt), tt), tt), tt), tt), tt), tt), tt), tt), tt), tt), tt), tt), tt), tt), tt), tt), tt), tt);
+    over_none = search rules;
+  };
+  silent_once_seen = search rules;
+  format_by_level = record { meets = ((((((((((((((((((((((((((((((((((((((((((((((((((((((((((((((((((((((((((((((((((((tt, tt), tt), tt), tt), tt), tt), tt), tt), tt), tt), tt), tt), tt), tt), tt), tt), tt), tt), tt), tt), tt), tt), tt), tt), tt), tt), tt), tt), tt), tt), tt), tt), tt), tt), tt), tt), tt), tt), tt), tt), tt), tt), tt), tt), tt), tt), tt), tt), tt), tt), tt), tt), tt), tt), tt), tt), tt), tt), tt), tt), tt), tt), tt), tt), tt), tt), tt), tt), tt), tt), tt), tt), tt), tt), tt), tt), tt), tt), tt), tt), tt), tt), tt), tt); format = search rules };
+}

@@ -61,10 +61,6 @@ is_plain want.Restarted = true
 is_plain (want.Ended reason) = true
 is_plain _ = false
 
-abbrev pub is_read_of_log : Want → Bool
-is_read_of_log (want.LogRead block) = true
-is_read_of_log _ = false
-
 -- The answer is one of an act: it fits it. The first LOGREAD is handed the KEY slots too.
 abbrev pub fits : Settings → List Event → Want → Answer → Bool
 fits p h w (answer.Done at) = is_plain w

@@ -117,22 +117,26 @@ made want.Restarted = RestartDeclared
 made (want.Ended reason) = EndedAs reason
 made _ = Ticked
 
--- The event that an answer is, in a job with this history. DECIDE gives the decision of its cause.
+-- The event that an answer is, in a job with this history whose next act is known. DECIDE gives the decision
+-- of its cause.
+abbrev pub event_by : Settings → List Event → Want → Answer → Event
+event_by p h w (answer.Tick at) = Ticked
+event_by p h w (answer.Done at) = made w
+event_by p h w (answer.Ctl held known) = ControlRead held known
+event_by p h w (answer.Look1 held signal) = Looked1 held signal
+event_by p h w (answer.Look2 signal at) = Looked2 signal at
+event_by p h w (answer.Decide known at) = DecisionMade known at (cause p h known at)
+event_by p h w (answer.MsgSlot slot) = MessageRead (place_of w) slot
+event_by p h w (answer.LogBlock block) = BlockRead block
+event_by p h w (answer.Anchored block keys) = FirstBlockRead block keys
+event_by p h w (answer.Gate gate) = gate_event w gate
+event_by p h w (answer.FileSlot slot) = RecordRead (place_of w) slot
+event_by p h w (answer.Item item) = Given item
+event_by p h w (answer.Exit said at) = Exited said at
+event_by p h w answer.Abend = Abended
+event_by p h w (answer.Reply go at) = Replied go at
+event_by p h w (answer.Cebt command at) = Commanded command at
+event_by p h w (answer.Failed at) = ActFailed (is_on_message w) at
+
 abbrev pub event : Settings → List Event → Answer → Event
-event p h (answer.Tick at) = Ticked
-event p h (answer.Done at) = made (next p h)
-event p h (answer.Ctl held known) = ControlRead held known
-event p h (answer.Look1 held signal) = Looked1 held signal
-event p h (answer.Look2 signal at) = Looked2 signal at
-event p h (answer.Decide known at) = DecisionMade known at (cause p h known at)
-event p h (answer.MsgSlot slot) = MessageRead (place_of (next p h)) slot
-event p h (answer.LogBlock block) = BlockRead block
-event p h (answer.Anchored block keys) = FirstBlockRead block keys
-event p h (answer.Gate gate) = gate_event (next p h) gate
-event p h (answer.FileSlot slot) = RecordRead (place_of (next p h)) slot
-event p h (answer.Item item) = Given item
-event p h (answer.Exit said at) = Exited said at
-event p h answer.Abend = Abended
-event p h (answer.Reply go at) = Replied go at
-event p h (answer.Cebt command at) = Commanded command at
-event p h (answer.Failed at) = ActFailed (is_on_message (next p h)) at
+event p h a = event_by p h (next p h) a

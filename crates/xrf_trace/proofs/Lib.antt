@@ -1,2 +1,3 @@
 pub mod RunLaws
 pub mod BookLaws
+pub mod HandingLaws

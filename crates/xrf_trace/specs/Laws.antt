@@ -1,9 +1,16 @@
 -- What holds of every run.
-use Rattle.std.specs.Prelude.{◌≡◌, ◌↔◌, List, ◌∷◌, length, take, slice_get, Some, None, Ok, Err, IfOk}
+use Rattle.std.specs.Prelude.{◌≡◌, ◌↔◌, IsTrue, List, ◌∷◌, length, take, slice_get, Some, None, IfSome, Ok, Err, IfOk}
 use Rattle.xrf_trace.specs.declared.choice.Choice.{Choice}
 use Rattle.xrf_trace.specs.declared.choice.Choice.TheVariants as choice
 use Rattle.xrf_trace.specs.declared.entry.Entry.{Entry}
-use Rattle.xrf_trace.specs.Scenario.{Scen}
+use Rattle.xrf_base.specs.declared.site.Site.{Site}
+use Rattle.xrf_history.specs.Events.{Event}
+use Rattle.xrf_history.specs.Next.{next}
+use Rattle.xrf_history.specs.Answers.{fits, event}
+use Rattle.xrf_trace.specs.Scenario.{Scen, settings}
+use Rattle.xrf_trace.specs.Jobs.{handed}
+use Rattle.xrf_trace.specs.Acts.{act_of}
+use Rattle.xrf_trace.specs.Handing.{answer_of}
 use Rattle.xrf_trace.specs.Words.{now}
 use Rattle.xrf_trace.specs.Refusals.{refusal}
 use Rattle.xrf_trace.specs.Runs.{Refusal, run, IsRun}
@@ -42,3 +49,11 @@ JournalsTell = (s : Scen) (cs : List Choice) → IfOk (run s cs) (λ t. choices_
 -- the file is the book as a list exactly where it is the book at each record
 abbrev pub BooksAreAtEach : Type 0
 BooksAreAtEach = (s : Scen) (t : List Entry) → IsBook s t ↔ IsBookAt s t
+
+-- What an act hands a job is an answer that fits it, and the event in the job's history is that of the answer.
+abbrev pub ActsAreAnswered : Type 0
+ActsAreAnswered = (s : Scen) (t : List Entry) (x : Site) (h : List Event)
+    → let w = next (settings s x) h in
+    IfSome (act_of s t x h w) (λ a.
+    (handed s t x (now t) h a ≡ event (settings s x) h (answer_of s t x h w))
+    × IsTrue (fits (settings s x) h w (answer_of s t x h w)))

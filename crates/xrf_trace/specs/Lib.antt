@@ -6,6 +6,7 @@ pub mod Devices
 pub mod Jobs
 pub mod Acts
 pub mod Refusals
+pub mod Handing
 pub mod Entries
 pub mod Runs
 pub mod Journal

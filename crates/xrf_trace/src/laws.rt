@@ -1,6 +1,6 @@
 //! Laws of runs.
 
-ghost use Rattle.xrf_trace.specs.Laws.{RunsAreRuns, TicksAreCounted, TickIsAccepted, RefusalsAreFirst, JournalsTell, BooksAreAtEach};
+ghost use Rattle.xrf_trace.specs.Laws.{RunsAreRuns, TicksAreCounted, TickIsAccepted, RefusalsAreFirst, JournalsTell, BooksAreAtEach, ActsAreAnswered};
 
 /// The trace that a list of choices comes to is that of a run, with an entry for each choice. The tick of an
 /// entry is the number of ticks up to and with it.
@@ -24,4 +24,9 @@ pub fn journals_tell_choices()
 /// The file is the book, said of all its records at once, exactly where it is said of each.
 pub fn books_are_at_each()
     ensures { BooksAreAtEach }
+{}
+
+/// What an act hands a job is an answer that fits it, and the event in the job's history is that of the answer.
+pub fn acts_are_answered()
+    ensures { ActsAreAnswered }
 {}

@@ -9,7 +9,10 @@ pub mod torn;
 
 pub use choice::{Choice, Landing};
 pub use entry::{Act, Entry, Land, Refused, Who};
-pub use laws::{books_are_at_each, journals_tell_choices, refusals_change_nothing, runs_are_runs};
+pub use laws::{
+    acts_are_answered, books_are_at_each, journals_tell_choices, refusals_change_nothing,
+    runs_are_runs,
+};
 pub use torn::TornBytes;
 
 #[cfg(test)]

@@ -9,6 +9,7 @@ which are the answers of the items, the tick, the control record, the counts of 
 The before-image of each Put, which no ACT line shows, is found by keeping the file as the acts change it.
 """
 import argparse
+import itertools
 import re
 import sys
 from pathlib import Path
@@ -393,6 +394,21 @@ def listed(lines):
     return "".join(f"\n    {line} ∷" for line in lines) + "\n    []"
 
 
+def in_runs(lines):
+    """The lines as lists, where a line that stands three times or more in a row is said once."""
+    groups = []
+    for line, run in itertools.groupby(lines):
+        count = len(list(run))
+        if count >= 3:
+            groups.append(f"replicate {count} ({line})")
+        elif groups and isinstance(groups[-1], list):
+            groups[-1] += [line] * count
+        else:
+            groups.append([line] * count)
+    parts = ["(" + "".join(f"{line} ∷ " for line in g) + "[])" if isinstance(g, list) else g for g in groups]
+    return "\n    " + "\n    ++ ".join(parts)
+
+
 def module(doc, title, acts):
     tracer = Tracer(doc)
     traced = []
@@ -447,9 +463,9 @@ use Rattle.xrf_exit.specs.declared.ExitAnswer.TheVariants as exit
 use Rattle.xrf_msg.specs.declared.messages.Message.TheVariants as message
 use Rattle.xrf_logrec.specs.declared.records.LogRec.TheVariants as rec
 use Rattle.xrf_history.specs.declared.want.EndWhy.TheVariants as end
-use Rattle.xrf_trace.specs.declared.choice.Choice.{Choice}
-use Rattle.xrf_trace.specs.declared.choice.Choice.TheVariants as choice
-use Rattle.xrf_trace.specs.declared.choice.Landing.TheVariants as landing
+use Rattle.xrf_forms.specs.declared.choice.Choice.{Choice}
+use Rattle.xrf_forms.specs.declared.choice.Choice.TheVariants as choice
+use Rattle.xrf_forms.specs.declared.choice.Landing.TheVariants as landing
 use Rattle.xrf_trace.specs.declared.entry.Act.TheVariants as act
 use Rattle.xrf_trace.specs.declared.entry.Entry.{Entry}
 use Rattle.xrf_trace.specs.declared.entry.Land.TheVariants as land
@@ -480,7 +496,7 @@ if __name__ == "__main__":
     doc = Doc(Path(args.document).read_text())
     out, choices, traced = module(doc, args.title, args.acts)
     body = "\n".join(out[2:])
-    body += "abbrev pub choices : List Choice\nchoices =" + listed(choices) + "\n\n"
+    body += "abbrev pub choices : List Choice\nchoices =" + in_runs(choices) + "\n\n"
     body += "abbrev pub trace : List Entry\ntrace =" + listed(reversed(traced)) + "\n"
     if not args.acts:
         body += "\n" + told(doc)

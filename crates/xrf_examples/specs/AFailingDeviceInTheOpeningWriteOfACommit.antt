@@ -12,9 +12,9 @@ use Rattle.xrf_cavm.specs.declared.decisions.Acting.TheVariants as acting
 use Rattle.xrf_cavm.specs.declared.decisions.Decided.TheVariants as decided
 use Rattle.xrf_logrec.specs.declared.records.LogRec.TheVariants as rec
 use Rattle.xrf_history.specs.declared.want.EndWhy.TheVariants as end
-use Rattle.xrf_trace.specs.declared.choice.Choice.{Choice}
-use Rattle.xrf_trace.specs.declared.choice.Choice.TheVariants as choice
-use Rattle.xrf_trace.specs.declared.choice.Landing.TheVariants as landing
+use Rattle.xrf_forms.specs.declared.choice.Choice.{Choice}
+use Rattle.xrf_forms.specs.declared.choice.Choice.TheVariants as choice
+use Rattle.xrf_forms.specs.declared.choice.Landing.TheVariants as landing
 use Rattle.xrf_trace.specs.declared.entry.Act.TheVariants as act
 use Rattle.xrf_trace.specs.declared.entry.Entry.{Entry}
 use Rattle.xrf_trace.specs.declared.entry.Land.TheVariants as land
@@ -40,50 +40,12 @@ scenario = record {
 
 abbrev pub choices : List Choice
 choices =
-    choice.StartActive site.A ∷
-    choice.Step site.A ∷
-    choice.Step site.A ∷
-    choice.Step site.A ∷
-    choice.Step site.A ∷
-    choice.Step site.A ∷
-    choice.Step site.A ∷
-    choice.Step site.A ∷
-    choice.Step site.A ∷
-    choice.Step site.A ∷
-    choice.Step site.A ∷
-    choice.Step site.A ∷
-    choice.Step site.A ∷
-    choice.Step site.A ∷
-    choice.Step site.A ∷
-    choice.Step site.A ∷
-    choice.Step site.A ∷
-    choice.Step site.A ∷
-    choice.Step site.A ∷
-    choice.Step site.A ∷
-    choice.Step site.A ∷
-    choice.Step site.A ∷
-    choice.Step site.A ∷
-    choice.Step site.A ∷
-    choice.Step site.A ∷
-    choice.Fail site.A (landing.Torn (193 ∷ [])) ∷
-    choice.Step site.A ∷
-    choice.Step site.A ∷
-    choice.Step site.A ∷
-    choice.Step site.A ∷
-    choice.Step site.A ∷
-    choice.StartActive site.A ∷
-    choice.Step site.A ∷
-    choice.Step site.A ∷
-    choice.Step site.A ∷
-    choice.Step site.A ∷
-    choice.Step site.A ∷
-    choice.Step site.A ∷
-    choice.Step site.A ∷
-    choice.Step site.A ∷
-    choice.Step site.A ∷
-    choice.Step site.A ∷
-    choice.Step site.A ∷
-    []
+    (choice.StartActive site.A ∷ [])
+    ++ replicate 24 (choice.Step site.A)
+    ++ (choice.Fail site.A (landing.Torn (193 ∷ [])) ∷ [])
+    ++ replicate 5 (choice.Step site.A)
+    ++ (choice.StartActive site.A ∷ [])
+    ++ replicate 11 (choice.Step site.A)
 
 abbrev pub trace : List Entry
 trace =

@@ -1,5 +1,5 @@
 -- A full ring and an unsent message.
-use Rattle.std.specs.Prelude.{true, false, List, [], ◌∷◌, replicate, codes, Some, None}
+use Rattle.std.specs.Prelude.{true, false, List, [], ◌∷◌, replicate, codes, Some, None, ◌++◌}
 use Rattle.xrf_base.specs.declared.site.Site.TheVariants as site
 use Rattle.xrf_base.specs.declared.site.Takeovr.TheVariants as takeovr
 use Rattle.xrf_base.specs.declared.items.Item.TheVariants as items
@@ -17,9 +17,9 @@ use Rattle.xrf_cavm.specs.declared.decisions.Decided.TheVariants as decided
 use Rattle.xrf_cebt.specs.declared.commands.Cebt.TheVariants as cebt
 use Rattle.xrf_cebt.specs.declared.replies.CebtReply.TheVariants as reply
 use Rattle.xrf_msg.specs.declared.messages.Message.TheVariants as message
-use Rattle.xrf_trace.specs.declared.choice.Choice.{Choice}
-use Rattle.xrf_trace.specs.declared.choice.Choice.TheVariants as choice
-use Rattle.xrf_trace.specs.declared.choice.Landing.TheVariants as landing
+use Rattle.xrf_forms.specs.declared.choice.Choice.{Choice}
+use Rattle.xrf_forms.specs.declared.choice.Choice.TheVariants as choice
+use Rattle.xrf_forms.specs.declared.choice.Landing.TheVariants as landing
 use Rattle.xrf_trace.specs.declared.entry.Act.TheVariants as act
 use Rattle.xrf_trace.specs.declared.entry.Entry.{Entry}
 use Rattle.xrf_trace.specs.declared.entry.Land.TheVariants as land
@@ -45,109 +45,20 @@ scenario = record {
 
 abbrev pub choices : List Choice
 choices =
-    choice.StartActive site.A ∷
-    choice.Step site.A ∷
-    choice.Step site.A ∷
-    choice.Step site.A ∷
-    choice.Step site.A ∷
-    choice.Step site.A ∷
-    choice.Step site.A ∷
-    choice.Step site.A ∷
-    choice.Step site.A ∷
-    choice.Step site.A ∷
-    choice.Step site.A ∷
-    choice.Step site.A ∷
-    choice.StartStandby site.B ∷
-    choice.Step site.B ∷
-    choice.Step site.B ∷
-    choice.Step site.B ∷
-    choice.Step site.B ∷
-    choice.Step site.B ∷
-    choice.Step site.B ∷
-    choice.Step site.B ∷
-    choice.Step site.B ∷
-    choice.Step site.B ∷
-    choice.Step site.B ∷
-    choice.Tick ∷
-    choice.Step site.A ∷
-    choice.Step site.A ∷
-    choice.Step site.A ∷
-    choice.Step site.A ∷
-    choice.Step site.A ∷
-    choice.Step site.A ∷
-    choice.Step site.A ∷
-    choice.Step site.A ∷
-    choice.Step site.A ∷
-    choice.Step site.A ∷
-    choice.Step site.A ∷
-    choice.Step site.A ∷
-    choice.Step site.A ∷
-    choice.Step site.A ∷
-    choice.Step site.A ∷
-    choice.Step site.A ∷
-    choice.Step site.A ∷
-    choice.Step site.A ∷
-    choice.Step site.A ∷
-    choice.Step site.A ∷
-    choice.Step site.A ∷
-    choice.Step site.B ∷
-    choice.Step site.B ∷
-    choice.Step site.B ∷
-    choice.Step site.B ∷
-    choice.Step site.B ∷
-    choice.Step site.B ∷
-    choice.Step site.B ∷
-    choice.Step site.B ∷
-    choice.Step site.B ∷
-    choice.Step site.B ∷
-    choice.Tick ∷
-    choice.Step site.B ∷
-    choice.Step site.B ∷
-    choice.Step site.B ∷
-    choice.Step site.B ∷
-    choice.Step site.B ∷
-    choice.Step site.B ∷
-    choice.Step site.A ∷
-    choice.Step site.A ∷
-    choice.Step site.A ∷
-    choice.Step site.A ∷
-    choice.Step site.A ∷
-    choice.Step site.A ∷
-    choice.Step site.A ∷
-    choice.Step site.A ∷
-    choice.Step site.A ∷
-    choice.Step site.A ∷
-    choice.Step site.A ∷
-    choice.Step site.A ∷
-    choice.Step site.A ∷
-    choice.Stop site.A landing.Nothing ∷
-    choice.Confirm 1 ∷
-    choice.Cebt site.B cebt.PerformTakeover ∷
-    choice.Tick ∷
-    choice.Step site.B ∷
-    choice.Step site.B ∷
-    choice.Step site.B ∷
-    choice.Step site.B ∷
-    choice.Step site.B ∷
-    choice.Step site.B ∷
-    choice.Step site.B ∷
-    choice.Step site.B ∷
-    choice.Step site.B ∷
-    choice.Tick ∷
-    choice.Step site.B ∷
-    choice.Step site.B ∷
-    choice.Step site.B ∷
-    choice.Step site.B ∷
-    choice.Step site.B ∷
-    choice.Step site.B ∷
-    choice.Step site.B ∷
-    choice.Step site.B ∷
-    choice.Step site.B ∷
-    choice.Step site.B ∷
-    choice.Step site.B ∷
-    choice.Step site.B ∷
-    choice.Step site.B ∷
-    []
+    (choice.StartActive site.A ∷ [])
+    ++ replicate 11 (choice.Step site.A)
+    ++ (choice.StartStandby site.B ∷ [])
+    ++ replicate 10 (choice.Step site.B)
+    ++ (choice.Tick ∷ [])
+    ++ replicate 21 (choice.Step site.A)
+    ++ replicate 10 (choice.Step site.B)
+    ++ (choice.Tick ∷ [])
+    ++ replicate 6 (choice.Step site.B)
+    ++ replicate 13 (choice.Step site.A)
+    ++ (choice.Stop site.A landing.Nothing ∷ choice.Confirm 1 ∷ choice.Cebt site.B cebt.PerformTakeover ∷ choice.Tick ∷ [])
+    ++ replicate 9 (choice.Step site.B)
+    ++ (choice.Tick ∷ [])
+    ++ replicate 13 (choice.Step site.B)
 
 abbrev pub trace : List Entry
 trace =

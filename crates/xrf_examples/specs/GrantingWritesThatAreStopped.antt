@@ -5,9 +5,9 @@ use Rattle.xrf_base.specs.declared.site.Takeovr.TheVariants as takeovr
 use Rattle.xrf_ctl.specs.declared.parts.Level.TheVariants as level
 use Rattle.xrf_ctl.specs.declared.parts.OwnerState.TheVariants as state
 use Rattle.xrf_ctl.specs.Control.{of_parts}
-use Rattle.xrf_trace.specs.declared.choice.Choice.{Choice}
-use Rattle.xrf_trace.specs.declared.choice.Choice.TheVariants as choice
-use Rattle.xrf_trace.specs.declared.choice.Landing.TheVariants as landing
+use Rattle.xrf_forms.specs.declared.choice.Choice.{Choice}
+use Rattle.xrf_forms.specs.declared.choice.Choice.TheVariants as choice
+use Rattle.xrf_forms.specs.declared.choice.Landing.TheVariants as landing
 use Rattle.xrf_trace.specs.declared.entry.Act.TheVariants as act
 use Rattle.xrf_trace.specs.declared.entry.Entry.{Entry}
 use Rattle.xrf_trace.specs.declared.entry.Land.TheVariants as land
@@ -33,16 +33,7 @@ scenario = record {
 
 abbrev pub choices : List Choice
 choices =
-    choice.StartActive site.A ∷
-    choice.Step site.A ∷
-    choice.Step site.A ∷
-    choice.Stop site.A landing.Nothing ∷
-    choice.StartActive site.A ∷
-    choice.Step site.A ∷
-    choice.Step site.A ∷
-    choice.Stop site.A landing.All ∷
-    choice.Confirm 1 ∷
-    []
+    (choice.StartActive site.A ∷ choice.Step site.A ∷ choice.Step site.A ∷ choice.Stop site.A landing.Nothing ∷ choice.StartActive site.A ∷ choice.Step site.A ∷ choice.Step site.A ∷ choice.Stop site.A landing.All ∷ choice.Confirm 1 ∷ [])
 
 abbrev pub trace : List Entry
 trace =

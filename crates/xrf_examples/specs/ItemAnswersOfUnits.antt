@@ -1,5 +1,5 @@
 -- Item answers of units.
-use Rattle.std.specs.Prelude.{false, List, [], ◌∷◌, replicate, codes, Some, None}
+use Rattle.std.specs.Prelude.{false, List, [], ◌∷◌, replicate, codes, Some, None, ◌++◌}
 use Rattle.xrf_base.specs.declared.site.Site.TheVariants as site
 use Rattle.xrf_base.specs.declared.site.Takeovr.TheVariants as takeovr
 use Rattle.xrf_base.specs.declared.items.Item.TheVariants as items
@@ -11,8 +11,8 @@ use Rattle.xrf_ctl.specs.Signal.{of_numbers}
 use Rattle.xrf_cavm.specs.declared.decisions.Acting.TheVariants as acting
 use Rattle.xrf_cavm.specs.declared.decisions.Decided.TheVariants as decided
 use Rattle.xrf_logrec.specs.declared.records.LogRec.TheVariants as rec
-use Rattle.xrf_trace.specs.declared.choice.Choice.{Choice}
-use Rattle.xrf_trace.specs.declared.choice.Choice.TheVariants as choice
+use Rattle.xrf_forms.specs.declared.choice.Choice.{Choice}
+use Rattle.xrf_forms.specs.declared.choice.Choice.TheVariants as choice
 use Rattle.xrf_trace.specs.declared.entry.Act.TheVariants as act
 use Rattle.xrf_trace.specs.declared.entry.Entry.{Entry}
 use Rattle.xrf_trace.specs.declared.entry.Land.TheVariants as land
@@ -38,38 +38,8 @@ scenario = record {
 
 abbrev pub choices : List Choice
 choices =
-    choice.StartActive site.A ∷
-    choice.Step site.A ∷
-    choice.Step site.A ∷
-    choice.Step site.A ∷
-    choice.Step site.A ∷
-    choice.Step site.A ∷
-    choice.Step site.A ∷
-    choice.Step site.A ∷
-    choice.Step site.A ∷
-    choice.Step site.A ∷
-    choice.Step site.A ∷
-    choice.Step site.A ∷
-    choice.Step site.A ∷
-    choice.Step site.A ∷
-    choice.Step site.A ∷
-    choice.Step site.A ∷
-    choice.Step site.A ∷
-    choice.Step site.A ∷
-    choice.Step site.A ∷
-    choice.Step site.A ∷
-    choice.Step site.A ∷
-    choice.Step site.A ∷
-    choice.Step site.A ∷
-    choice.Step site.A ∷
-    choice.Step site.A ∷
-    choice.Step site.A ∷
-    choice.Step site.A ∷
-    choice.Step site.A ∷
-    choice.Step site.A ∷
-    choice.Step site.A ∷
-    choice.Step site.A ∷
-    []
+    (choice.StartActive site.A ∷ [])
+    ++ replicate 30 (choice.Step site.A)
 
 abbrev pub trace : List Entry
 trace =

@@ -16,9 +16,9 @@ use Rattle.xrf_cavm.specs.declared.decisions.Acting.TheVariants as acting
 use Rattle.xrf_cavm.specs.declared.decisions.Decided.TheVariants as decided
 use Rattle.xrf_msg.specs.declared.messages.Message.TheVariants as message
 use Rattle.xrf_logrec.specs.declared.records.LogRec.TheVariants as rec
-use Rattle.xrf_trace.specs.declared.choice.Choice.{Choice}
-use Rattle.xrf_trace.specs.declared.choice.Choice.TheVariants as choice
-use Rattle.xrf_trace.specs.declared.choice.Landing.TheVariants as landing
+use Rattle.xrf_forms.specs.declared.choice.Choice.{Choice}
+use Rattle.xrf_forms.specs.declared.choice.Choice.TheVariants as choice
+use Rattle.xrf_forms.specs.declared.choice.Landing.TheVariants as landing
 use Rattle.xrf_trace.specs.declared.entry.Act.TheVariants as act
 use Rattle.xrf_trace.specs.declared.entry.Entry.{Entry}
 use Rattle.xrf_trace.specs.declared.entry.Land.TheVariants as land
@@ -44,309 +44,75 @@ scenario = record {
 
 abbrev pub choices : List Choice
 choices =
-    choice.StartActive site.A ∷
-    choice.Step site.A ∷
-    choice.Step site.A ∷
-    choice.Step site.A ∷
-    choice.Step site.A ∷
-    choice.Step site.A ∷
-    choice.Step site.A ∷
-    choice.Step site.A ∷
-    choice.Step site.A ∷
-    choice.Step site.A ∷
-    choice.Step site.A ∷
-    choice.Step site.A ∷
-    choice.StartStandby site.B ∷
-    choice.Step site.B ∷
-    choice.Step site.B ∷
-    choice.Step site.B ∷
-    choice.Step site.B ∷
-    choice.Step site.B ∷
-    choice.Step site.B ∷
-    choice.Step site.B ∷
-    choice.Step site.B ∷
-    choice.Step site.B ∷
-    choice.Step site.B ∷
-    choice.Tick ∷
-    choice.Step site.A ∷
-    choice.Step site.A ∷
-    choice.Step site.A ∷
-    choice.Step site.A ∷
-    choice.Step site.A ∷
-    choice.Step site.A ∷
-    choice.Step site.A ∷
-    choice.Step site.A ∷
-    choice.Step site.A ∷
-    choice.Step site.A ∷
-    choice.Step site.A ∷
-    choice.Step site.A ∷
-    choice.Step site.A ∷
-    choice.Step site.A ∷
-    choice.Step site.A ∷
-    choice.Step site.A ∷
-    choice.Step site.A ∷
-    choice.Step site.A ∷
-    choice.Step site.A ∷
-    choice.Step site.A ∷
-    choice.Step site.A ∷
-    choice.Step site.A ∷
-    choice.Step site.A ∷
-    choice.Step site.A ∷
-    choice.Step site.A ∷
-    choice.Step site.A ∷
-    choice.Step site.A ∷
-    choice.Step site.A ∷
-    choice.Step site.A ∷
-    choice.Step site.A ∷
-    choice.Step site.A ∷
-    choice.Step site.A ∷
-    choice.Step site.A ∷
-    choice.Step site.A ∷
-    choice.Step site.A ∷
-    choice.Step site.B ∷
-    choice.Step site.B ∷
-    choice.Step site.B ∷
-    choice.Step site.B ∷
-    choice.Step site.B ∷
-    choice.Step site.B ∷
-    choice.Step site.B ∷
-    choice.Step site.B ∷
-    choice.Step site.B ∷
-    choice.Step site.B ∷
-    choice.Stop site.A landing.Nothing ∷
-    choice.Tick ∷
-    choice.Step site.B ∷
-    choice.Step site.B ∷
-    choice.Step site.B ∷
-    choice.Step site.B ∷
-    choice.Step site.B ∷
-    choice.Step site.B ∷
-    choice.Tick ∷
-    choice.Step site.B ∷
-    choice.Step site.B ∷
-    choice.Step site.B ∷
-    choice.Step site.B ∷
-    choice.Step site.B ∷
-    choice.Step site.B ∷
-    choice.Tick ∷
-    choice.Step site.B ∷
-    choice.Step site.B ∷
-    choice.Step site.B ∷
-    choice.Step site.B ∷
-    choice.Step site.B ∷
-    choice.Step site.B ∷
-    choice.Tick ∷
-    choice.Step site.B ∷
-    choice.Step site.B ∷
-    choice.Step site.B ∷
-    choice.Step site.B ∷
-    choice.Step site.B ∷
-    choice.Step site.B ∷
-    choice.Tick ∷
-    choice.Step site.B ∷
-    choice.Step site.B ∷
-    choice.Step site.B ∷
-    choice.Step site.B ∷
-    choice.Step site.B ∷
-    choice.Step site.B ∷
-    choice.Tick ∷
-    choice.Step site.B ∷
-    choice.Step site.B ∷
-    choice.Step site.B ∷
-    choice.Step site.B ∷
-    choice.Step site.B ∷
-    choice.Step site.B ∷
-    choice.Tick ∷
-    choice.Step site.B ∷
-    choice.Step site.B ∷
-    choice.Step site.B ∷
-    choice.Step site.B ∷
-    choice.Step site.B ∷
-    choice.Step site.B ∷
-    choice.Tick ∷
-    choice.Step site.B ∷
-    choice.Step site.B ∷
-    choice.Step site.B ∷
-    choice.Step site.B ∷
-    choice.Step site.B ∷
-    choice.Step site.B ∷
-    choice.Tick ∷
-    choice.Step site.B ∷
-    choice.Step site.B ∷
-    choice.Step site.B ∷
-    choice.Step site.B ∷
-    choice.Step site.B ∷
-    choice.Step site.B ∷
-    choice.Tick ∷
-    choice.Step site.B ∷
-    choice.Step site.B ∷
-    choice.Step site.B ∷
-    choice.Step site.B ∷
-    choice.Step site.B ∷
-    choice.Step site.B ∷
-    choice.Tick ∷
-    choice.Step site.B ∷
-    choice.Step site.B ∷
-    choice.Step site.B ∷
-    choice.Step site.B ∷
-    choice.Step site.B ∷
-    choice.Step site.B ∷
-    choice.Tick ∷
-    choice.Step site.B ∷
-    choice.Step site.B ∷
-    choice.Step site.B ∷
-    choice.Step site.B ∷
-    choice.Step site.B ∷
-    choice.Step site.B ∷
-    choice.Tick ∷
-    choice.Step site.B ∷
-    choice.Step site.B ∷
-    choice.Step site.B ∷
-    choice.Step site.B ∷
-    choice.Step site.B ∷
-    choice.Step site.B ∷
-    choice.Tick ∷
-    choice.Step site.B ∷
-    choice.Step site.B ∷
-    choice.Step site.B ∷
-    choice.Step site.B ∷
-    choice.Step site.B ∷
-    choice.Step site.B ∷
-    choice.Tick ∷
-    choice.Step site.B ∷
-    choice.Step site.B ∷
-    choice.Step site.B ∷
-    choice.Step site.B ∷
-    choice.Step site.B ∷
-    choice.Step site.B ∷
-    choice.Tick ∷
-    choice.Step site.B ∷
-    choice.Step site.B ∷
-    choice.Step site.B ∷
-    choice.Step site.B ∷
-    choice.Step site.B ∷
-    choice.Step site.B ∷
-    choice.Tick ∷
-    choice.Step site.B ∷
-    choice.Step site.B ∷
-    choice.Step site.B ∷
-    choice.Step site.B ∷
-    choice.Step site.B ∷
-    choice.Step site.B ∷
-    choice.Tick ∷
-    choice.Step site.B ∷
-    choice.Step site.B ∷
-    choice.Step site.B ∷
-    choice.Step site.B ∷
-    choice.Step site.B ∷
-    choice.Step site.B ∷
-    choice.Tick ∷
-    choice.Step site.B ∷
-    choice.Step site.B ∷
-    choice.Step site.B ∷
-    choice.Step site.B ∷
-    choice.Step site.B ∷
-    choice.Step site.B ∷
-    choice.Tick ∷
-    choice.Step site.B ∷
-    choice.Step site.B ∷
-    choice.Step site.B ∷
-    choice.Step site.B ∷
-    choice.Step site.B ∷
-    choice.Step site.B ∷
-    choice.Tick ∷
-    choice.Step site.B ∷
-    choice.Step site.B ∷
-    choice.Step site.B ∷
-    choice.Step site.B ∷
-    choice.Step site.B ∷
-    choice.Step site.B ∷
-    choice.Tick ∷
-    choice.Step site.B ∷
-    choice.Step site.B ∷
-    choice.Step site.B ∷
-    choice.Step site.B ∷
-    choice.Step site.B ∷
-    choice.Step site.B ∷
-    choice.Tick ∷
-    choice.Step site.B ∷
-    choice.Step site.B ∷
-    choice.Step site.B ∷
-    choice.Step site.B ∷
-    choice.Step site.B ∷
-    choice.Step site.B ∷
-    choice.Tick ∷
-    choice.Step site.B ∷
-    choice.Step site.B ∷
-    choice.Step site.B ∷
-    choice.Step site.B ∷
-    choice.Step site.B ∷
-    choice.Step site.B ∷
-    choice.Tick ∷
-    choice.Step site.B ∷
-    choice.Step site.B ∷
-    choice.Step site.B ∷
-    choice.Step site.B ∷
-    choice.Step site.B ∷
-    choice.Step site.B ∷
-    choice.Tick ∷
-    choice.Step site.B ∷
-    choice.Step site.B ∷
-    choice.Step site.B ∷
-    choice.Step site.B ∷
-    choice.Step site.B ∷
-    choice.Step site.B ∷
-    choice.Tick ∷
-    choice.Step site.B ∷
-    choice.Step site.B ∷
-    choice.Step site.B ∷
-    choice.Step site.B ∷
-    choice.Step site.B ∷
-    choice.Step site.B ∷
-    choice.Tick ∷
-    choice.Step site.B ∷
-    choice.Step site.B ∷
-    choice.Step site.B ∷
-    choice.Step site.B ∷
-    choice.Step site.B ∷
-    choice.Step site.B ∷
-    choice.Tick ∷
-    choice.Step site.B ∷
-    choice.Step site.B ∷
-    choice.Step site.B ∷
-    choice.Step site.B ∷
-    choice.Step site.B ∷
-    choice.Step site.B ∷
-    choice.Tick ∷
-    choice.Step site.B ∷
-    choice.Step site.B ∷
-    choice.Step site.B ∷
-    choice.Step site.B ∷
-    choice.Step site.B ∷
-    choice.Step site.B ∷
-    choice.Step site.B ∷
-    choice.Step site.B ∷
-    choice.Step site.B ∷
-    choice.Step site.B ∷
-    choice.Step site.B ∷
-    choice.Confirm 1 ∷
-    choice.Tick ∷
-    choice.Step site.B ∷
-    choice.Step site.B ∷
-    choice.Step site.B ∷
-    choice.Step site.B ∷
-    choice.Step site.B ∷
-    choice.Step site.B ∷
-    choice.Step site.B ∷
-    choice.Step site.B ∷
-    choice.Step site.B ∷
-    choice.Step site.B ∷
-    choice.Step site.B ∷
-    choice.Step site.B ∷
-    choice.Step site.B ∷
-    choice.Step site.B ∷
-    choice.Step site.B ∷
-    []
+    (choice.StartActive site.A ∷ [])
+    ++ replicate 11 (choice.Step site.A)
+    ++ (choice.StartStandby site.B ∷ [])
+    ++ replicate 10 (choice.Step site.B)
+    ++ (choice.Tick ∷ [])
+    ++ replicate 35 (choice.Step site.A)
+    ++ replicate 10 (choice.Step site.B)
+    ++ (choice.Stop site.A landing.Nothing ∷ choice.Tick ∷ [])
+    ++ replicate 6 (choice.Step site.B)
+    ++ (choice.Tick ∷ [])
+    ++ replicate 6 (choice.Step site.B)
+    ++ (choice.Tick ∷ [])
+    ++ replicate 6 (choice.Step site.B)
+    ++ (choice.Tick ∷ [])
+    ++ replicate 6 (choice.Step site.B)
+    ++ (choice.Tick ∷ [])
+    ++ replicate 6 (choice.Step site.B)
+    ++ (choice.Tick ∷ [])
+    ++ replicate 6 (choice.Step site.B)
+    ++ (choice.Tick ∷ [])
+    ++ replicate 6 (choice.Step site.B)
+    ++ (choice.Tick ∷ [])
+    ++ replicate 6 (choice.Step site.B)
+    ++ (choice.Tick ∷ [])
+    ++ replicate 6 (choice.Step site.B)
+    ++ (choice.Tick ∷ [])
+    ++ replicate 6 (choice.Step site.B)
+    ++ (choice.Tick ∷ [])
+    ++ replicate 6 (choice.Step site.B)
+    ++ (choice.Tick ∷ [])
+    ++ replicate 6 (choice.Step site.B)
+    ++ (choice.Tick ∷ [])
+    ++ replicate 6 (choice.Step site.B)
+    ++ (choice.Tick ∷ [])
+    ++ replicate 6 (choice.Step site.B)
+    ++ (choice.Tick ∷ [])
+    ++ replicate 6 (choice.Step site.B)
+    ++ (choice.Tick ∷ [])
+    ++ replicate 6 (choice.Step site.B)
+    ++ (choice.Tick ∷ [])
+    ++ replicate 6 (choice.Step site.B)
+    ++ (choice.Tick ∷ [])
+    ++ replicate 6 (choice.Step site.B)
+    ++ (choice.Tick ∷ [])
+    ++ replicate 6 (choice.Step site.B)
+    ++ (choice.Tick ∷ [])
+    ++ replicate 6 (choice.Step site.B)
+    ++ (choice.Tick ∷ [])
+    ++ replicate 6 (choice.Step site.B)
+    ++ (choice.Tick ∷ [])
+    ++ replicate 6 (choice.Step site.B)
+    ++ (choice.Tick ∷ [])
+    ++ replicate 6 (choice.Step site.B)
+    ++ (choice.Tick ∷ [])
+    ++ replicate 6 (choice.Step site.B)
+    ++ (choice.Tick ∷ [])
+    ++ replicate 6 (choice.Step site.B)
+    ++ (choice.Tick ∷ [])
+    ++ replicate 6 (choice.Step site.B)
+    ++ (choice.Tick ∷ [])
+    ++ replicate 6 (choice.Step site.B)
+    ++ (choice.Tick ∷ [])
+    ++ replicate 6 (choice.Step site.B)
+    ++ (choice.Tick ∷ [])
+    ++ replicate 6 (choice.Step site.B)
+    ++ (choice.Tick ∷ [])
+    ++ replicate 11 (choice.Step site.B)
+    ++ (choice.Confirm 1 ∷ choice.Tick ∷ [])
+    ++ replicate 15 (choice.Step site.B)
 
 abbrev pub trace : List Entry
 trace =

@@ -1,5 +1,5 @@
 -- The operator is asked.
-use Rattle.std.specs.Prelude.{true, false, List, [], ◌∷◌, replicate, Some, None}
+use Rattle.std.specs.Prelude.{true, false, List, [], ◌∷◌, replicate, Some, None, ◌++◌}
 use Rattle.xrf_base.specs.declared.site.Site.TheVariants as site
 use Rattle.xrf_base.specs.declared.site.Takeovr.TheVariants as takeovr
 use Rattle.xrf_ctl.specs.declared.parts.Level.TheVariants as level
@@ -10,8 +10,8 @@ use Rattle.xrf_ctl.specs.Signal.{of_numbers}
 use Rattle.xrf_cavm.specs.declared.decisions.Decision.TheVariants as decision
 use Rattle.xrf_cavm.specs.declared.decisions.Acting.TheVariants as acting
 use Rattle.xrf_cavm.specs.declared.decisions.Decided.TheVariants as decided
-use Rattle.xrf_trace.specs.declared.choice.Choice.{Choice}
-use Rattle.xrf_trace.specs.declared.choice.Choice.TheVariants as choice
+use Rattle.xrf_forms.specs.declared.choice.Choice.{Choice}
+use Rattle.xrf_forms.specs.declared.choice.Choice.TheVariants as choice
 use Rattle.xrf_trace.specs.declared.entry.Act.TheVariants as act
 use Rattle.xrf_trace.specs.declared.entry.Entry.{Entry}
 use Rattle.xrf_trace.specs.declared.entry.Land.TheVariants as land
@@ -37,112 +37,32 @@ scenario = record {
 
 abbrev pub choices : List Choice
 choices =
-    choice.StartActive site.A ∷
-    choice.Step site.A ∷
-    choice.Step site.A ∷
-    choice.Step site.A ∷
-    choice.Step site.A ∷
-    choice.Step site.A ∷
-    choice.Step site.A ∷
-    choice.Step site.A ∷
-    choice.Step site.A ∷
-    choice.Step site.A ∷
-    choice.Step site.A ∷
-    choice.Step site.A ∷
-    choice.StartStandby site.B ∷
-    choice.Step site.B ∷
-    choice.Step site.B ∷
-    choice.Step site.B ∷
-    choice.Step site.B ∷
-    choice.Step site.B ∷
-    choice.Step site.B ∷
-    choice.Step site.B ∷
-    choice.Step site.B ∷
-    choice.Step site.B ∷
-    choice.Step site.B ∷
-    choice.Tick ∷
-    choice.Step site.B ∷
-    choice.Step site.B ∷
-    choice.Step site.B ∷
-    choice.Step site.B ∷
-    choice.Step site.B ∷
-    choice.Step site.B ∷
-    choice.Tick ∷
-    choice.Step site.B ∷
-    choice.Step site.B ∷
-    choice.Step site.B ∷
-    choice.Step site.B ∷
-    choice.Step site.B ∷
-    choice.Step site.B ∷
-    choice.Tick ∷
-    choice.Step site.B ∷
-    choice.Step site.B ∷
-    choice.Step site.B ∷
-    choice.Step site.B ∷
-    choice.Step site.B ∷
-    choice.Step site.B ∷
-    choice.Tick ∷
-    choice.Step site.B ∷
-    choice.Step site.B ∷
-    choice.Step site.B ∷
-    choice.Step site.B ∷
-    choice.Step site.B ∷
-    choice.Step site.B ∷
-    choice.Tick ∷
-    choice.Step site.B ∷
-    choice.Step site.B ∷
-    choice.Step site.B ∷
-    choice.Step site.B ∷
-    choice.Step site.B ∷
-    choice.Step site.B ∷
-    choice.Reply site.B false ∷
-    choice.Tick ∷
-    choice.Step site.B ∷
-    choice.Step site.B ∷
-    choice.Step site.B ∷
-    choice.Step site.B ∷
-    choice.Step site.B ∷
-    choice.Step site.B ∷
-    choice.Tick ∷
-    choice.Step site.B ∷
-    choice.Step site.B ∷
-    choice.Step site.B ∷
-    choice.Step site.B ∷
-    choice.Step site.B ∷
-    choice.Step site.B ∷
-    choice.Tick ∷
-    choice.Step site.B ∷
-    choice.Step site.B ∷
-    choice.Step site.B ∷
-    choice.Step site.B ∷
-    choice.Step site.B ∷
-    choice.Step site.B ∷
-    choice.Tick ∷
-    choice.Step site.B ∷
-    choice.Step site.B ∷
-    choice.Step site.B ∷
-    choice.Step site.B ∷
-    choice.Step site.B ∷
-    choice.Step site.B ∷
-    choice.Tick ∷
-    choice.Step site.B ∷
-    choice.Step site.B ∷
-    choice.Step site.B ∷
-    choice.Step site.B ∷
-    choice.Step site.B ∷
-    choice.Step site.B ∷
-    choice.Reply site.B true ∷
-    choice.Tick ∷
-    choice.Step site.B ∷
-    choice.Step site.B ∷
-    choice.Step site.B ∷
-    choice.Step site.B ∷
-    choice.Step site.B ∷
-    choice.Step site.B ∷
-    choice.Step site.B ∷
-    choice.Step site.B ∷
-    choice.Step site.B ∷
-    []
+    (choice.StartActive site.A ∷ [])
+    ++ replicate 11 (choice.Step site.A)
+    ++ (choice.StartStandby site.B ∷ [])
+    ++ replicate 10 (choice.Step site.B)
+    ++ (choice.Tick ∷ [])
+    ++ replicate 6 (choice.Step site.B)
+    ++ (choice.Tick ∷ [])
+    ++ replicate 6 (choice.Step site.B)
+    ++ (choice.Tick ∷ [])
+    ++ replicate 6 (choice.Step site.B)
+    ++ (choice.Tick ∷ [])
+    ++ replicate 6 (choice.Step site.B)
+    ++ (choice.Tick ∷ [])
+    ++ replicate 6 (choice.Step site.B)
+    ++ (choice.Reply site.B false ∷ choice.Tick ∷ [])
+    ++ replicate 6 (choice.Step site.B)
+    ++ (choice.Tick ∷ [])
+    ++ replicate 6 (choice.Step site.B)
+    ++ (choice.Tick ∷ [])
+    ++ replicate 6 (choice.Step site.B)
+    ++ (choice.Tick ∷ [])
+    ++ replicate 6 (choice.Step site.B)
+    ++ (choice.Tick ∷ [])
+    ++ replicate 6 (choice.Step site.B)
+    ++ (choice.Reply site.B true ∷ choice.Tick ∷ [])
+    ++ replicate 9 (choice.Step site.B)
 
 abbrev pub trace : List Entry
 trace =

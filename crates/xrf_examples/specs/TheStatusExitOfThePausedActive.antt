@@ -14,8 +14,8 @@ use Rattle.xrf_cavm.specs.declared.decisions.Acting.TheVariants as acting
 use Rattle.xrf_cavm.specs.declared.decisions.Decided.TheVariants as decided
 use Rattle.xrf_exit.specs.declared.ExitAnswer.TheVariants as exit
 use Rattle.xrf_logrec.specs.declared.records.LogRec.TheVariants as rec
-use Rattle.xrf_trace.specs.declared.choice.Choice.{Choice}
-use Rattle.xrf_trace.specs.declared.choice.Choice.TheVariants as choice
+use Rattle.xrf_forms.specs.declared.choice.Choice.{Choice}
+use Rattle.xrf_forms.specs.declared.choice.Choice.TheVariants as choice
 use Rattle.xrf_trace.specs.declared.entry.Act.TheVariants as act
 use Rattle.xrf_trace.specs.declared.entry.Entry.{Entry}
 use Rattle.xrf_trace.specs.declared.entry.Land.TheVariants as land
@@ -41,80 +41,22 @@ scenario = record {
 
 abbrev pub choices : List Choice
 choices =
-    choice.StartActive site.A ∷
-    choice.Step site.A ∷
-    choice.Step site.A ∷
-    choice.Step site.A ∷
-    choice.Step site.A ∷
-    choice.Step site.A ∷
-    choice.Step site.A ∷
-    choice.Step site.A ∷
-    choice.Step site.A ∷
-    choice.Step site.A ∷
-    choice.Step site.A ∷
-    choice.Step site.A ∷
-    choice.Step site.A ∷
-    choice.Step site.A ∷
-    choice.Step site.A ∷
-    choice.StartStandby site.B ∷
-    choice.Step site.B ∷
-    choice.Step site.B ∷
-    choice.Step site.B ∷
-    choice.Step site.B ∷
-    choice.Step site.B ∷
-    choice.Step site.B ∷
-    choice.Step site.B ∷
-    choice.Step site.B ∷
-    choice.Step site.B ∷
-    choice.Step site.B ∷
-    choice.Tick ∷
-    choice.Step site.B ∷
-    choice.Step site.B ∷
-    choice.Step site.B ∷
-    choice.Step site.B ∷
-    choice.Step site.B ∷
-    choice.Step site.B ∷
-    choice.Tick ∷
-    choice.Step site.B ∷
-    choice.Step site.B ∷
-    choice.Step site.B ∷
-    choice.Step site.B ∷
-    choice.Step site.B ∷
-    choice.Step site.B ∷
-    choice.Tick ∷
-    choice.Step site.B ∷
-    choice.Step site.B ∷
-    choice.Step site.B ∷
-    choice.Step site.B ∷
-    choice.Step site.B ∷
-    choice.Step site.B ∷
-    choice.Tick ∷
-    choice.Step site.B ∷
-    choice.Step site.B ∷
-    choice.Step site.B ∷
-    choice.Step site.B ∷
-    choice.Step site.B ∷
-    choice.Step site.B ∷
-    choice.Tick ∷
-    choice.Step site.B ∷
-    choice.Step site.B ∷
-    choice.Step site.B ∷
-    choice.Step site.B ∷
-    choice.Step site.B ∷
-    choice.Step site.B ∷
-    choice.Step site.B ∷
-    choice.Step site.B ∷
-    choice.Step site.B ∷
-    choice.Step site.A ∷
-    choice.Step site.A ∷
-    choice.Step site.A ∷
-    choice.Step site.A ∷
-    choice.Step site.A ∷
-    choice.Step site.A ∷
-    choice.Step site.A ∷
-    choice.Step site.A ∷
-    choice.Exit site.A exit.Abend ∷
-    []
+    (choice.StartActive site.A ∷ [])
+    ++ replicate 14 (choice.Step site.A)
+    ++ (choice.StartStandby site.B ∷ [])
+    ++ replicate 10 (choice.Step site.B)
+    ++ (choice.Tick ∷ [])
+    ++ replicate 6 (choice.Step site.B)
+    ++ (choice.Tick ∷ [])
+    ++ replicate 6 (choice.Step site.B)
+    ++ (choice.Tick ∷ [])
+    ++ replicate 6 (choice.Step site.B)
+    ++ (choice.Tick ∷ [])
+    ++ replicate 6 (choice.Step site.B)
+    ++ (choice.Tick ∷ [])
+    ++ replicate 9 (choice.Step site.B)
+    ++ replicate 8 (choice.Step site.A)
+    ++ (choice.Exit site.A exit.Abend ∷ [])
 
 abbrev pub trace : List Entry
 trace =

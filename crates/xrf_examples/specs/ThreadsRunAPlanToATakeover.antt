@@ -1,5 +1,5 @@
 -- Threads run a plan to a takeover.
-use Rattle.std.specs.Prelude.{true, false, List, [], ◌∷◌, replicate, codes, Some, None}
+use Rattle.std.specs.Prelude.{true, false, List, [], ◌∷◌, replicate, codes, Some, None, ◌++◌}
 use Rattle.xrf_base.specs.declared.site.Site.TheVariants as site
 use Rattle.xrf_base.specs.declared.site.Takeovr.TheVariants as takeovr
 use Rattle.xrf_base.specs.declared.items.Item.TheVariants as items
@@ -16,8 +16,8 @@ use Rattle.xrf_cavm.specs.declared.decisions.Acting.TheVariants as acting
 use Rattle.xrf_cavm.specs.declared.decisions.Decided.TheVariants as decided
 use Rattle.xrf_msg.specs.declared.messages.Message.TheVariants as message
 use Rattle.xrf_history.specs.declared.want.EndWhy.TheVariants as end
-use Rattle.xrf_trace.specs.declared.choice.Choice.{Choice}
-use Rattle.xrf_trace.specs.declared.choice.Choice.TheVariants as choice
+use Rattle.xrf_forms.specs.declared.choice.Choice.{Choice}
+use Rattle.xrf_forms.specs.declared.choice.Choice.TheVariants as choice
 use Rattle.xrf_trace.specs.declared.entry.Act.TheVariants as act
 use Rattle.xrf_trace.specs.declared.entry.Entry.{Entry}
 use Rattle.xrf_trace.specs.declared.entry.Land.TheVariants as land
@@ -43,138 +43,26 @@ scenario = record {
 
 abbrev pub choices : List Choice
 choices =
-    choice.StartActive site.A ∷
-    choice.Step site.A ∷
-    choice.Step site.A ∷
-    choice.Step site.A ∷
-    choice.Step site.A ∷
-    choice.Step site.A ∷
-    choice.Step site.A ∷
-    choice.Step site.A ∷
-    choice.Step site.A ∷
-    choice.Step site.A ∷
-    choice.Step site.A ∷
-    choice.Step site.A ∷
-    choice.Step site.A ∷
-    choice.Step site.A ∷
-    choice.Step site.A ∷
-    choice.Tick ∷
-    choice.Step site.A ∷
-    choice.StartStandby site.B ∷
-    choice.Step site.A ∷
-    choice.Step site.B ∷
-    choice.Step site.A ∷
-    choice.Step site.B ∷
-    choice.Step site.A ∷
-    choice.Step site.B ∷
-    choice.Step site.A ∷
-    choice.Step site.B ∷
-    choice.Step site.B ∷
-    choice.Step site.B ∷
-    choice.Step site.B ∷
-    choice.Step site.B ∷
-    choice.Step site.B ∷
-    choice.Step site.B ∷
-    choice.Tick ∷
-    choice.Step site.A ∷
-    choice.Step site.B ∷
-    choice.Step site.A ∷
-    choice.Step site.B ∷
-    choice.Step site.A ∷
-    choice.Step site.B ∷
-    choice.Step site.A ∷
-    choice.Step site.B ∷
-    choice.Step site.A ∷
-    choice.Step site.B ∷
-    choice.Step site.A ∷
-    choice.Step site.B ∷
-    choice.Step site.A ∷
-    choice.Step site.A ∷
-    choice.Step site.A ∷
-    choice.Step site.A ∷
-    choice.Step site.A ∷
-    choice.Step site.A ∷
-    choice.Step site.A ∷
-    choice.Step site.A ∷
-    choice.Step site.A ∷
-    choice.Step site.A ∷
-    choice.Step site.A ∷
-    choice.Tick ∷
-    choice.Step site.A ∷
-    choice.Step site.B ∷
-    choice.Abend site.A ∷
-    choice.Step site.A ∷
-    choice.Step site.B ∷
-    choice.Step site.A ∷
-    choice.Step site.B ∷
-    choice.Step site.A ∷
-    choice.Step site.B ∷
-    choice.Step site.A ∷
-    choice.Step site.B ∷
-    choice.Step site.A ∷
-    choice.Step site.B ∷
-    choice.Step site.A ∷
-    choice.Step site.B ∷
-    choice.Step site.A ∷
-    choice.Step site.B ∷
-    choice.Step site.A ∷
-    choice.Step site.B ∷
-    choice.Step site.A ∷
-    choice.Step site.B ∷
-    choice.Tick ∷
-    choice.Step site.B ∷
-    choice.Step site.B ∷
-    choice.Step site.B ∷
-    choice.Step site.B ∷
-    choice.Step site.B ∷
-    choice.Step site.B ∷
-    choice.Step site.B ∷
-    choice.Step site.B ∷
-    choice.Step site.B ∷
-    choice.Tick ∷
-    choice.Step site.B ∷
-    choice.Step site.B ∷
-    choice.Step site.B ∷
-    choice.Step site.B ∷
-    choice.Step site.B ∷
-    choice.Step site.B ∷
-    choice.Step site.B ∷
-    choice.Step site.B ∷
-    choice.Step site.B ∷
-    choice.Step site.B ∷
-    choice.Step site.B ∷
-    choice.Step site.B ∷
-    choice.Tick ∷
-    choice.Step site.B ∷
-    choice.Step site.B ∷
-    choice.Step site.B ∷
-    choice.Step site.B ∷
-    choice.Step site.B ∷
-    choice.Tick ∷
-    choice.Step site.B ∷
-    choice.Step site.B ∷
-    choice.Step site.B ∷
-    choice.Step site.B ∷
-    choice.Step site.B ∷
-    choice.Tick ∷
-    choice.Step site.B ∷
-    choice.Step site.B ∷
-    choice.Step site.B ∷
-    choice.Step site.B ∷
-    choice.Step site.B ∷
-    choice.Tick ∷
-    choice.Step site.B ∷
-    choice.Step site.B ∷
-    choice.Step site.B ∷
-    choice.Step site.B ∷
-    choice.Step site.B ∷
-    choice.Tick ∷
-    choice.Step site.B ∷
-    choice.Step site.B ∷
-    choice.Step site.B ∷
-    choice.Step site.B ∷
-    choice.Step site.B ∷
-    []
+    (choice.StartActive site.A ∷ [])
+    ++ replicate 14 (choice.Step site.A)
+    ++ (choice.Tick ∷ choice.Step site.A ∷ choice.StartStandby site.B ∷ choice.Step site.A ∷ choice.Step site.B ∷ choice.Step site.A ∷ choice.Step site.B ∷ choice.Step site.A ∷ choice.Step site.B ∷ choice.Step site.A ∷ [])
+    ++ replicate 7 (choice.Step site.B)
+    ++ (choice.Tick ∷ choice.Step site.A ∷ choice.Step site.B ∷ choice.Step site.A ∷ choice.Step site.B ∷ choice.Step site.A ∷ choice.Step site.B ∷ choice.Step site.A ∷ choice.Step site.B ∷ choice.Step site.A ∷ choice.Step site.B ∷ choice.Step site.A ∷ choice.Step site.B ∷ [])
+    ++ replicate 11 (choice.Step site.A)
+    ++ (choice.Tick ∷ choice.Step site.A ∷ choice.Step site.B ∷ choice.Abend site.A ∷ choice.Step site.A ∷ choice.Step site.B ∷ choice.Step site.A ∷ choice.Step site.B ∷ choice.Step site.A ∷ choice.Step site.B ∷ choice.Step site.A ∷ choice.Step site.B ∷ choice.Step site.A ∷ choice.Step site.B ∷ choice.Step site.A ∷ choice.Step site.B ∷ choice.Step site.A ∷ choice.Step site.B ∷ choice.Step site.A ∷ choice.Step site.B ∷ choice.Step site.A ∷ choice.Step site.B ∷ choice.Tick ∷ [])
+    ++ replicate 9 (choice.Step site.B)
+    ++ (choice.Tick ∷ [])
+    ++ replicate 12 (choice.Step site.B)
+    ++ (choice.Tick ∷ [])
+    ++ replicate 5 (choice.Step site.B)
+    ++ (choice.Tick ∷ [])
+    ++ replicate 5 (choice.Step site.B)
+    ++ (choice.Tick ∷ [])
+    ++ replicate 5 (choice.Step site.B)
+    ++ (choice.Tick ∷ [])
+    ++ replicate 5 (choice.Step site.B)
+    ++ (choice.Tick ∷ [])
+    ++ replicate 5 (choice.Step site.B)
 
 abbrev pub trace : List Entry
 trace =

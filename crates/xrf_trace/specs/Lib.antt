@@ -1,4 +1,3 @@
-pub mod Torn
 pub mod Scenario
 pub mod Landing
 pub mod Words

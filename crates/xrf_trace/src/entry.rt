@@ -1,11 +1,11 @@
 //! The entries of a trace.
 
-use crate::choice::Landing;
 use xrf_base::{Inc, Tick, UnitId, Value};
 use xrf_cavm::Decided;
 use xrf_cebt::{Cebt, CebtReply};
 use xrf_ctl::{Control, Signal};
 use xrf_exit::ExitAnswer;
+use xrf_forms::Landing;
 use xrf_history::EndWhy;
 use xrf_logrec::{Keypoint, LogRec};
 use xrf_msg::Message;

@@ -1,19 +1,12 @@
-//! The choices of a run and the entries of its trace. What a trace says, which choices are accepted, the run,
+//! The entries of a trace. What a trace says, which choices are accepted, the run,
 //! and what is safe stand in specs/.
 #![tactic(auto)]
 
-pub mod choice;
 pub mod entry;
 mod laws;
-pub mod torn;
 
-pub use choice::{Choice, Landing};
 pub use entry::{Act, Entry, Land, Refused, Who};
 pub use laws::{
     acts_are_answered, books_are_at_each, journals_tell_choices, refusals_change_nothing,
     runs_are_runs,
 };
-pub use torn::TornBytes;
-
-#[cfg(test)]
-mod tests;

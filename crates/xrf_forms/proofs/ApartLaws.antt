@@ -328,7 +328,7 @@ line-again forms ws line h s =
     ∙ ap (λ (f : Option Reason). unless_fault f (said s.form ws)) w.faultless
     ∙ ap (unless_fault None) s.line
 
-settings-apart : (format : Format) → are_apart (settings_of format) ≡ true
+pub settings-apart : (format : Format) → are_apart (settings_of format) ≡ true
 settings-apart One = refl
 settings-apart Two = refl
 

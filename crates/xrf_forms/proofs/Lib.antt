@@ -5,3 +5,5 @@ pub mod SayingLaws
 pub mod ApartLaws
 pub mod RoundLaws
 pub mod TornLaws
+pub mod ItemLaws
+pub mod WordLaws

@@ -1,5 +1,5 @@
 -- Numbers in texts.
-use Rattle.std.proofs.Common.{◌≡◌, ◌≤◌, ◌<◌, ◌+◌, ◌*◌, ◌^◌, ◌==◌, ◌||◌, not, ℕ, zero, suc, Bool, true, false, Some, List, length, refl, sym, ◌∙◌, ap, arith, rules, subst, slice_index, get_or, add-one}
+use Rattle.std.proofs.Common.{◌≡◌, ◌≤◌, ◌<◌, ◌+◌, ◌*◌, ◌^◌, ◌==◌, ◌||◌, not, ℕ, zero, suc, Bool, true, false, Some, List, length, refl, sym, ◌∙◌, ap, arith, rules, slice_index, get_or, add-one}
 use Rattle.std.proofs.lemmas.Option.{cond_some}
 use Rattle.std.proofs.lemmas.Bool.{eqb-true, eq-eqb, le-leb, leb-true}
 use Rattle.std.specs.Cmp.Derive.{both_true}
@@ -28,14 +28,6 @@ few-digits number i small few = let top : 10 ^ i ≤ 10 ^ 4 = pow-le-pow_right {
 -- one digit more
 pub digit-more : (number i digit : ℕ) → number < 10 ^ i → digit ≤ 9 → 10 * number + digit < 10 ^ (i + 1)
 digit-more number i digit small low = let top : 10 ^ (i + 1) ≡ 10 * 10 ^ i = ap (λ (k : ℕ). 10 ^ k) (add-one i) ∙ pow-succ' 10 i in omega arith
-
--- no digit is a blank
-pub digits-no_blank : (c : ℕ) → is_ascii_digit c ≡ true → (c == 32) ≡ false
-digits-no_blank c h = by (c == 32) refl
-  where
-    by : (t : Bool) → (c == 32) ≡ t → t ≡ false
-    by false e = refl
-    by true e = let clash : is_ascii_digit 32 ≡ true = subst (λ (d : ℕ). is_ascii_digit d ≡ true) (eqb-true c 32 e) h in absurd (cc)
 
 -- the parts of the test of a number
 record IsNumber (text : List ℕ) : Type 0 where

@@ -1,11 +1,9 @@
 -- What is written of a choice is read again.
-use Rattle.std.proofs.Common.{◌≡◌, inl, inr, ◌≢◌, ◌≤◌, ◌<◌, ◌==◌, ℕ, true, false, IsTrue, Some, List, [], ◌∷◌, Ok, codes, refl, ap, ◌∙◌, arith, length}
+use Rattle.std.proofs.Common.{◌≡◌, inl, inr, ◌≤◌, ℕ, true, false, IsTrue, Some, List, [], ◌∷◌, Ok, codes, refl, ap, ◌∙◌, arith}
 use Rattle.std.specs.Fmt.{decimal}
 use Rattle.std.specs.Char.{is_ascii_digit}
-use Rattle.std.specs.List.{AllByRecursion, list_all, join_with_byte}
-use Rattle.std.proofs.lemmas.Bool.{eq-eqb}
+use Rattle.std.specs.List.{join_with_byte}
 use Rattle.std.proofs.lemmas.Fmt.{digits_decimal, decimal_nonempty}
-use Rattle.xrf_base.proofs.Texts.{both-left, both-right}
 use Rattle.std.specs.Option.{is_some}
 use Rattle.xrf_base.specs.declared.site.Site.{Site}
 use Rattle.xrf_base.specs.declared.site.Site.TheVariants.{A, B}
@@ -27,23 +25,15 @@ use Rattle.xrf_forms.specs.Hex.{is_hex}
 use Rattle.xrf_forms.specs.Operands.{site_of}
 use Rattle.xrf_forms.proofs.TornLaws.{is-hex, torn-again, hex-word}
 use Rattle.xrf_forms.specs.Table.{choices_table}
+use Rattle.xrf_forms.proofs.WordLaws.{blank-free, some-word}
 use Rattle.xrf_forms.proofs.ApartLaws.{line-again, choices-apart}
-use Rattle.xrf_forms.proofs.NumberLaws.{numerals, number-of-decimal, digits-no_blank}
+use Rattle.xrf_forms.proofs.NumberLaws.{numerals, number-of-decimal}
 
--- digits have no blank
-no_blank : (text : List ℕ) → list_all is_ascii_digit text ≡ true → AllByRecursion (λ b. b ≢ 32) text
-no_blank [] h = tt
-no_blank (b ∷ bs) h =
-    (λ same. let clash : (b == 32) ≡ true = eq-eqb b 32 same in let other = digits-no_blank b (both-left _ _ h) in cc, no_blank bs (both-right _ _ h))
-
-filled : (text : List ℕ) → 0 < length text → text ≢ []
-filled [] h = absurd (omega arith)
-filled (b ∷ bs) h = λ e. cc
-
-number-word : (n : ℕ) → n ≤ 65535 → IsWord (decimal n)
+-- a number is a word
+pub number-word : (n : ℕ) → n ≤ 65535 → IsWord (decimal n)
 number-word n fits = record {
-  some = filled (decimal n) (decimal_nonempty n (omega arith));
-  no_blank = no_blank (decimal n) (digits_decimal numerals n (omega arith));
+  some = some-word (decimal n) (decimal_nonempty n (omega arith));
+  no_blank = blank-free is_ascii_digit refl (decimal n) (digits_decimal numerals n (omega arith));
 }
 
 confirm-words : (n : ℕ) → n ≤ 65535 → words (choice_text (choice.Confirm n)) ≡ codes "CONFIRM" ∷ decimal n ∷ []

@@ -1,9 +1,10 @@
 -- Bytes that are written in hex are read again.
-use Rattle.std.proofs.Common.{◌≡◌, ◌≢◌, ◌≤◌, ◌<◌, ◌+◌, ◌/◌, ◌%◌, ◌==◌, ◌&&◌, ℕ, zero, suc, Bool, true, false, List, [], ◌∷◌, length, Some, refl, ◌∙◌, ap, arith, subst}
+use Rattle.std.proofs.Common.{◌≡◌, ◌<◌, ◌+◌, ◌/◌, ◌%◌, ◌==◌, ◌&&◌, ℕ, zero, suc, Bool, true, false, List, [], ◌∷◌, length, Some, refl, ◌∙◌, ap, arith}
 use Rattle.std.specs.List.{AllByRecursion, list_all}
 use Rattle.std.proofs.lemmas.Bool.{le-leb, eqb-true, eqb-false, eq-eqb}
 use Rattle.xrf_base.proofs.Texts.{both-left, both-right}
 use Rattle.xrf_text.specs.Text.{IsWord}
+use Rattle.xrf_forms.proofs.WordLaws.{blank-free, some-word}
 use Rattle.xrf_forms.specs.Hex.{is_hex, is_hex_digit, byte_of, bytes_of_hex, torn_of_hex}
 use Rattle.xrf_forms.specs.Spelling.{hex_digit, hex_text, IsTorn}
 
@@ -64,16 +65,7 @@ pub torn-again : (bytes : List ℕ) → IsTorn bytes → torn_of_hex (hex_text b
 torn-again bytes h = rw (is-hex bytes h) (ap Some (again bytes h.each))
 
 -- what is written in hex is a word
-no_blank : (text : List ℕ) → list_all is_hex_digit text ≡ true → AllByRecursion (λ b. b ≢ 32) text
-no_blank [] h = tt
-no_blank (b ∷ bs) h =
-    (λ same. let digit : is_hex_digit 32 ≡ true = subst (λ (n : ℕ). is_hex_digit n ≡ true) same (both-left _ _ h) in cc, no_blank bs (both-right _ _ h))
-
-some-word : (text : List ℕ) → 1 ≤ length text → text ≢ []
-some-word [] h = absurd (omega arith)
-some-word (b ∷ bs) h = λ e. cc
-
 pub hex-word : (bytes : List ℕ) → IsTorn bytes → IsWord (hex_text bytes)
 hex-word bytes h =
     let size = two-each bytes in
-    record { some = some-word (hex_text bytes) (omega (arith, h.least)); no_blank = no_blank (hex_text bytes) (digits bytes h.each) }
+    record { some = some-word (hex_text bytes) (omega (arith, h.least)); no_blank = blank-free is_hex_digit refl (hex_text bytes) (digits bytes h.each) }

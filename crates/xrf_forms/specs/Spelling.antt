@@ -2,6 +2,8 @@
 use Rattle.std.specs.Prelude.{ℕ, Bool, true, false, ◌+◌, ◌/◌, ◌%◌, ◌≤◌, ◌<◌, nat_lt, List, length, [], ◌∷◌, ◌++◌, flat_map, codes, if◌then◌else◌}
 use Rattle.std.specs.Fmt.{decimal}
 use Rattle.std.specs.List.{AllByRecursion}
+use Rattle.xrf_base.specs.Names.{IsName}
+use Rattle.xrf_base.specs.Values.{IsValue}
 use Rattle.xrf_base.specs.declared.site.Site.{Site}
 use Rattle.xrf_base.specs.declared.site.Site.TheVariants.{A, B}
 use Rattle.xrf_base.specs.declared.items.Item.{Item}
@@ -92,3 +94,24 @@ HasLine (choice.Confirm number) = number ≤ 65535
 HasLine (choice.Stop site (Torn torn)) = IsTorn torn
 HasLine (choice.Fail site (Torn torn)) = IsTorn torn
 HasLine _ = Unit {0}
+
+-- a line of work
+abbrev pub work_text : Site → Item → List ℕ
+work_text site i = site_text (codes "WORK") site (codes " " ++ item_text i)
+
+-- the class of a terminal
+abbrev pub IsClass : ℕ → Type 0
+IsClass class = (1 ≤ class) × (class ≤ 3)
+
+-- an item whose names, numbers and values a line can spell
+abbrev pub HasItem : Item → Type 0
+HasItem (item.Begin unit) = IsName unit
+HasItem (item.Put unit number value) = IsName unit × (number ≤ 65535) × IsValue value
+HasItem (item.Get unit number) = IsName unit × (number ≤ 65535)
+HasItem (item.Commit unit) = IsName unit
+HasItem (item.Roll unit) = IsName unit
+HasItem (item.Logon terminal class) = IsName terminal × IsClass class
+HasItem (item.Logoff terminal) = IsName terminal
+HasItem (item.Signon terminal user) = IsName terminal × IsName user
+HasItem (item.Signoff terminal) = IsName terminal
+HasItem _ = Unit {0}

@@ -24,7 +24,7 @@ pub use line::Line;
 pub use reading::{read_choice, read_header, read_setting};
 pub use reason::Reason;
 pub use torn::TornBytes;
-pub use writing::{choices_read_again, put_choice, put_item};
+pub use writing::{choices_read_again, items_read_again, put_choice, put_item};
 
 #[cfg(test)]
 mod tests;

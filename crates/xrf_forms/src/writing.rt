@@ -3,11 +3,13 @@
 ghost use Rattle.std.specs.Prelude.{◌≡◌, ◌<◌, ◌++◌, OnOk, Ok, codes};
 ghost use Rattle.std.specs.Fmt.{decimal};
 ghost use Rattle.xrf_cebt.specs.Command.{command_text};
-ghost use Rattle.xrf_forms.specs.Spelling.{hex_digit, hex_text, piece_text, pieces_text, site_text, site_word, answer_word, landed_text, go_text, choice_text, item_text, HasLine};
+ghost use Rattle.xrf_forms.specs.Spelling.{hex_digit, hex_text, piece_text, pieces_text, site_text, site_word, answer_word, landed_text, go_text, choice_text, item_text, work_text, HasLine, HasItem};
 ghost use Rattle.xrf_forms.specs.Reading.{line_of};
-ghost use Rattle.xrf_forms.specs.Table.{choices_table};
-ghost use Rattle.xrf_forms.specs.declared.line.Line.TheVariants.{Once};
+ghost use Rattle.xrf_forms.specs.Table.{choices_table, settings_of};
+ghost use Rattle.xrf_forms.specs.declared.line.Line.TheVariants.{Once, Work};
 ghost use Rattle.xrf_text.specs.Text.{words};
+ghost use Rattle.xrf_forms.specs.declared.form.Format.TheVariants.{Two};
+ghost use Rattle.xrf_base.specs.declared.site.Site.{Site};
 
 use crate::choice::{Choice, Landing};
 use Piece::{Hex, Number, Text};
@@ -256,4 +258,9 @@ pub fn put_item(alloc: Global, out: &mut Vec<u8>, item: &Item) -> Result<(), All
 #[tactic(auto, using(crate::proofs::RoundLaws::choice_again))]
 pub fn choices_read_again()
     ensures { (choice : Choice) → HasLine choice → line_of choices_table (words (choice_text choice)) ≡ Ok (Once choice) }
+{}
+
+/// What is written of a work item, behind WORK and a site, is read again as that item.
+pub fn items_read_again()
+    ensures { (site : Site) (i : Item) → HasItem i → line_of (settings_of Two) (words (work_text site i)) ≡ Ok (Work site i) }
 {}

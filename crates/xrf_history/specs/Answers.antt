@@ -30,14 +30,6 @@ may_fail (want.FileWrite unit rrn value) = true
 may_fail (want.Undo rrn before) = true
 may_fail _ = false
 
--- an act on a message slot
-abbrev pub is_on_message : Want → Bool
-is_on_message (want.MsgRead place) = true
-is_on_message (want.MsgClose place) = true
-is_on_message (want.MsgBody place message) = true
-is_on_message (want.MsgOpen place message) = true
-is_on_message _ = false
-
 -- an act that is answered by the tick alone
 abbrev pub is_plain : Want → Bool
 is_plain want.Reserve = true
@@ -136,7 +128,7 @@ event_by p h w (answer.Exit said at) = Exited said at
 event_by p h w answer.Abend = Abended
 event_by p h w (answer.Reply go at) = Replied go at
 event_by p h w (answer.Cebt command at) = Commanded command at
-event_by p h w (answer.Failed at) = ActFailed (is_on_message w) at
+event_by p h w (answer.Failed at) = ActFailed w at
 
 abbrev pub event : Settings → List Event → Answer → Event
 event p h a = event_by p h (next p h) a

@@ -13,6 +13,7 @@ use Rattle.xrf_msg.specs.declared.messages.Message.{Message}
 use Rattle.xrf_logrec.specs.declared.records.LogRec.{LogRec}
 use Rattle.xrf_logrec.specs.declared.keypoints.Keypoint.{Keypoint}
 use Rattle.xrf_history.specs.declared.want.EndWhy.{EndWhy}
+use Rattle.xrf_history.specs.declared.want.Want.{Want}
 
 pub data Event : Type 0 where
   -- its START, as active or as standby
@@ -63,5 +64,5 @@ pub data Event : Type 0 where
   LineIssued : (number : ℕ) → Event
   RestartDeclared : Event
   EndedAs : (why : EndWhy) → Event
-  -- an act that failed, and whether it was on a message slot
-  ActFailed : (on_message : Bool) → (at : ℕ) → Event
+  -- an act that failed
+  ActFailed : (tried : Want) → (at : ℕ) → Event

@@ -23,6 +23,8 @@ use Rattle.xrf_exit.specs.declared.ExitAnswer.TheVariants as exit
 use Rattle.xrf_history.specs.declared.settings.Settings.{Settings}
 use Rattle.xrf_history.specs.declared.want.EndWhy.{EndWhy}
 use Rattle.xrf_history.specs.declared.want.EndWhy.TheVariants as end
+use Rattle.xrf_history.specs.declared.want.Want.{Want}
+use Rattle.xrf_history.specs.declared.want.Want.TheVariants as want
 use Rattle.xrf_history.specs.Events.{Event, Abended, Exited, Reserved, ControlRead, ControlWritten, DecisionMade, Given, ActFailed}
 use Rattle.xrf_history.specs.Holding.{starts_active, is_granted, number, is_owner}
 use Rattle.xrf_history.specs.Taking.{is_draining}
@@ -37,6 +39,14 @@ state_by_item _ = None
 abbrev pub or_else : {X : Type 0} → Option X → Option X → Option X
 or_else (Some first) later = Some first
 or_else None later = later
+
+-- an act on a message slot
+abbrev pub is_on_message : Want → Bool
+is_on_message (want.MsgRead place) = true
+is_on_message (want.MsgClose place) = true
+is_on_message (want.MsgBody place message) = true
+is_on_message (want.MsgOpen place message) = true
+is_on_message _ = false
 
 -- a failed act of an owner on a message that it sends; all its other acts that may fail are on the log, the
 -- keypoints and the file, or read a message that it drains
@@ -53,7 +63,7 @@ sign_off_due [] = None
 sign_off_due (Abended ∷ h) = or_else (sign_off_due h) (Some OffAbend)
 sign_off_due (Exited exit.Abend at ∷ h) = or_else (sign_off_due h) (Some OffAbend)
 sign_off_due (Given item ∷ h) = or_else (sign_off_due h) (state_by_item item)
-sign_off_due (ActFailed on_message at ∷ h) = or_else (sign_off_due h) (if fails_owner on_message h then Some OffAbend else None)
+sign_off_due (ActFailed tried at ∷ h) = or_else (sign_off_due h) (if fails_owner (is_on_message tried) h then Some OffAbend else None)
 sign_off_due (_ ∷ h) = sign_off_due h
 
 -- a drop is due where an EXIT DROP, or a failed act on a message that it sends, has no RESERVE after it
@@ -61,7 +71,7 @@ abbrev pub drop_due : List Event → Bool
 drop_due [] = false
 drop_due (Reserved ∷ h) = false
 drop_due (Exited exit.Drop at ∷ h) = true
-drop_due (ActFailed on_message at ∷ h) = drop_due h || fails_sending on_message h
+drop_due (ActFailed tried at ∷ h) = drop_due h || fails_sending (is_on_message tried) h
 drop_due (_ ∷ h) = drop_due h
 
 -- the last decision
@@ -107,7 +117,7 @@ end_in _ = None
 abbrev pub leaves : List Event → Option EndWhy
 leaves [] = None
 leaves (DecisionMade known at decision ∷ h) = end_in decision
-leaves (ActFailed on_message at ∷ h) = if is_owner h then leaves h else Some end.MsgError
+leaves (ActFailed tried at ∷ h) = if is_owner h then leaves h else Some end.MsgError
 leaves (_ ∷ h) = leaves h
 
 -- what a job reserves the control data set for
@@ -199,7 +209,7 @@ end_for p GoThrough me held known = None
 abbrev pub leaving : List Event → Option EndWhy
 leaving [] = None
 leaving (DecisionMade known at decision ∷ h) = end_in decision
-leaving (ActFailed on_message at ∷ h) = if is_owner h then leaving h else Some end.MsgError
+leaving (ActFailed tried at ∷ h) = if is_owner h then leaving h else Some end.MsgError
 leaving (ControlRead held known ∷ h) = if abandons (purpose h) (number h) held then Some end.Abandoned else leaving h
 leaving (_ ∷ h) = leaving h
 

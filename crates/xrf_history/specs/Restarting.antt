@@ -9,7 +9,8 @@ use Rattle.xrf_logrec.specs.LogRecords.{same_unit}
 use Rattle.xrf_log.specs.Flight.{flight, undo_rows}
 use Rattle.xrf_log.specs.Scan.{Scanned, cleared, after_anchors, after_block}
 use Rattle.xrf_history.specs.declared.settings.Settings.{Settings}
-use Rattle.xrf_history.specs.Events.{Event, FirstBlockRead, BlockRead, LogOpened, KeyOpened, RecordUndone}
+use Rattle.xrf_history.specs.declared.want.Want.TheVariants as want
+use Rattle.xrf_history.specs.Events.{Event, FirstBlockRead, BlockRead, LogOpened, KeyOpened, RecordUndone, ActFailed}
 
 -- The scan: from the anchor that the first LOGREAD handed, through the blocks that it was handed. It has
 -- ended where a slot that it reached is not an open record of the expected number, or LOG records were taken.
@@ -29,6 +30,7 @@ has_read_block (_ ∷ h) = has_read_block h
 abbrev pub undone : List Event → ℕ
 undone [] = 0
 undone (RecordUndone rrn before ∷ h) = undone h + 1
+undone (ActFailed (want.Undo rrn before) at ∷ h) = undone h + 1
 undone (FirstBlockRead block keys ∷ h) = 0
 undone (BlockRead block ∷ h) = 0
 undone (_ ∷ h) = undone h
@@ -46,6 +48,7 @@ is_backout_of unit (Commit u) = false
 abbrev pub has_backout : UnitId → List Event → Bool
 has_backout unit [] = false
 has_backout unit (LogOpened place rec ∷ h) = is_backout_of unit rec || has_backout unit h
+has_backout unit (ActFailed (want.LogOpen place rec) at ∷ h) = is_backout_of unit rec || has_backout unit h
 has_backout unit (_ ∷ h) = has_backout unit h
 
 -- the Backouts that are left: the units in flight whose Backout has no LOGOPEN
@@ -56,6 +59,7 @@ backouts_left p h = filter (λ unit. not (has_backout unit h)) (flight (scan p h
 abbrev pub records_opened : List Event → ℕ
 records_opened [] = 0
 records_opened (LogOpened place rec ∷ h) = records_opened h + 1
+records_opened (ActFailed (want.LogOpen place rec) at ∷ h) = records_opened h + 1
 records_opened (_ ∷ h) = records_opened h
 
 -- The next of a job: the number of the next log record. It is the sum of the anchor's start, the records
@@ -67,6 +71,7 @@ next_record p h = (scan p h).anchor.start + length (scan p h).records + records_
 abbrev pub last_keypoint : Settings → List Event → Keypoint
 last_keypoint p [] = (cleared p.limits.log).anchor
 last_keypoint p (KeyOpened place keypoint ∷ h) = keypoint
+last_keypoint p (ActFailed (want.KpOpen place keypoint) at ∷ h) = keypoint
 last_keypoint p (FirstBlockRead block keys ∷ h) = (scan p (FirstBlockRead block keys ∷ h)).anchor
 last_keypoint p (_ ∷ h) = last_keypoint p h
 

@@ -19,7 +19,7 @@ use Rattle.xrf_cavm.specs.declared.decisions.Decision.TheVariants as decision
 use Rattle.xrf_cavm.specs.declared.decisions.Waiting.TheVariants as waiting
 use Rattle.xrf_cavm.specs.declared.decisions.Decided.{Decided}
 use Rattle.xrf_cavm.specs.declared.decisions.Decided.TheVariants.{Alternate, Waiting}
-use Rattle.xrf_history.specs.Events.{Event, Ticked, Signalled1, DecisionMade, MessageRead, LineIssued}
+use Rattle.xrf_history.specs.Events.{Event, Ticked, Signalled1, DecisionMade, MessageRead, LineIssued, ActFailed}
 use Rattle.xrf_history.specs.Holding.{number, is_granted, is_owner, is_waiting, is_restarted}
 use Rattle.xrf_history.specs.Taking.{expected, gives, is_draining}
 use Rattle.xrf_history.specs.Reserving.{sign_off_due, drop_due, start_due, through_due, leaving}
@@ -126,6 +126,7 @@ abbrev pub reading_due : List Event → Bool
 reading_due [] = false
 reading_due (DecisionMade known at decision ∷ h) = lets_read decision
 reading_due (MessageRead place slot ∷ h) = reading_due h && gives slot h
+reading_due (ActFailed (want.MsgRead place) at ∷ h) = false
 reading_due (_ ∷ h) = reading_due h
 
 -- the lines of the command list that it has issued

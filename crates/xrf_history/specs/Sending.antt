@@ -17,7 +17,8 @@ use Rattle.xrf_msg.specs.Numbers.{cursor_after}
 use Rattle.xrf_terms.specs.declared.rows.Row.{Row}
 use Rattle.xrf_terms.specs.Table.{row_of}
 use Rattle.xrf_history.specs.declared.settings.Settings.{Settings}
-use Rattle.xrf_history.specs.Events.{Event, Looked1, Looked2, DecisionMade, MessageOpened, Given}
+use Rattle.xrf_history.specs.declared.want.Want.TheVariants as want
+use Rattle.xrf_history.specs.Events.{Event, Looked1, Looked2, DecisionMade, MessageOpened, Given, ActFailed}
 use Rattle.xrf_history.specs.Notices.{epoch}
 use Rattle.xrf_history.specs.Terminals.{terminal_answer, table}
 
@@ -30,6 +31,7 @@ abbrev pub sent : List Event → ℕ
 sent [] = 0
 sent (DecisionMade known at decision ∷ h) = sent_after decision (sent h)
 sent (MessageOpened place message ∷ h) = sent h + 1
+sent (ActFailed (want.MsgOpen place message) at ∷ h) = sent h + 1
 sent (_ ∷ h) = sent h
 
 -- End is sent since that CATCHUP
@@ -45,6 +47,7 @@ abbrev pub is_end_sent : List Event → Bool
 is_end_sent [] = false
 is_end_sent (DecisionMade known at decision ∷ h) = end_after decision (is_end_sent h)
 is_end_sent (MessageOpened place message ∷ h) = is_end_sent h || is_end message
+is_end_sent (ActFailed (want.MsgOpen place message) at ∷ h) = is_end_sent h || is_end message
 is_end_sent (_ ∷ h) = is_end_sent h
 
 -- The cursor: the greatest, at most the number then sent, of a signal of the epoch in the looks since that
@@ -117,6 +120,7 @@ newer None before = before
 abbrev pub message_of_change : Settings → (epoch number : ℕ) → List Event → Option Message
 message_of_change p n q [] = None
 message_of_change p n q (MessageOpened place message ∷ h) = None
+message_of_change p n q (ActFailed (want.MsgOpen place message) at ∷ h) = None
 message_of_change p n q (Given item ∷ h) = newer (message_of_item p n q item h) (message_of_change p n q h)
 message_of_change p n q (_ ∷ h) = message_of_change p n q h
 

@@ -2,7 +2,8 @@
 use Rattle.std.specs.Prelude.{ℕ, Bool, false, ◌&&◌, ◌||◌, not, is_some, if◌then◌else◌, List, [], ◌∷◌, length, Option, Some, None}
 use Rattle.xrf_msg.specs.declared.messages.Message.{Message}
 use Rattle.xrf_msg.specs.Numbers.{given}
-use Rattle.xrf_history.specs.Events.{Event, MessageRead}
+use Rattle.xrf_history.specs.declared.want.Want.TheVariants as want
+use Rattle.xrf_history.specs.Events.{Event, MessageRead, ActFailed}
 use Rattle.xrf_history.specs.Holding.{number, is_through, is_restarted}
 
 abbrev pub with_message : Option Message → List Message → List Message
@@ -28,6 +29,7 @@ gives slot h = is_some (given slot (number h) (expected h))
 abbrev pub is_drained : List Event → Bool
 is_drained [] = false
 is_drained (MessageRead place slot ∷ h) = is_drained h || (is_through h && not (gives slot h))
+is_drained (ActFailed (want.MsgRead place) at ∷ h) = is_drained h || is_through h
 is_drained (_ ∷ h) = is_drained h
 
 -- it was let through, and the messages are not drained

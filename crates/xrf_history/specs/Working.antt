@@ -14,7 +14,8 @@ use Rattle.xrf_file.specs.Ledger.{Ledger, fresh, started, planned, logged, ended
 use Rattle.xrf_file.specs.declared.answers.Plan.{Plan}
 use Rattle.xrf_file.specs.declared.answers.Plan.TheVariants as plans
 use Rattle.xrf_history.specs.declared.settings.Settings.{Settings}
-use Rattle.xrf_history.specs.Events.{Event, LogOpened, KeyOpened, RecordRead, RecordWritten, RecordUndone, Given, RestartDeclared}
+use Rattle.xrf_history.specs.declared.want.Want.TheVariants as want
+use Rattle.xrf_history.specs.Events.{Event, LogOpened, KeyOpened, RecordRead, RecordWritten, RecordUndone, Given, RestartDeclared, ActFailed}
 use Rattle.xrf_history.specs.Holding.{number, is_restarted}
 use Rattle.xrf_history.specs.Restarting.{next_record, start_record, last_keypoint}
 use Rattle.xrf_history.specs.Terminals.{terminal_answer, table}
@@ -32,6 +33,8 @@ ledger p (RestartDeclared ∷ h) = started (fresh p.limits.log p.limits.file) (n
 ledger p (Given item ∷ h) = planned (ledger p h) item
 ledger p (LogOpened place rec ∷ h) = after_record rec (ledger p h)
 ledger p (KeyOpened place keypoint ∷ h) = keyed (ledger p h) keypoint.start
+ledger p (ActFailed (want.LogOpen place rec) at ∷ h) = after_record rec (ledger p h)
+ledger p (ActFailed (want.KpOpen place keypoint) at ∷ h) = keyed (ledger p h) keypoint.start
 ledger p (_ ∷ h) = ledger p h
 
 -- what the item taken last makes the job do
@@ -45,6 +48,7 @@ abbrev pub undone_of_item : List Event → ℕ
 undone_of_item [] = 0
 undone_of_item (Given item ∷ h) = 0
 undone_of_item (RecordUndone rrn before ∷ h) = undone_of_item h + 1
+undone_of_item (ActFailed (want.Undo rrn before) at ∷ h) = undone_of_item h + 1
 undone_of_item (_ ∷ h) = undone_of_item h
 
 abbrev pub rolled_left : Settings → UnitId → List Event → List Undo

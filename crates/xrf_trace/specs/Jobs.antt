@@ -12,12 +12,13 @@ use Rattle.xrf_history.specs.Events.{Event, StartedActive, StartedStandby, Ticke
 use Rattle.xrf_history.specs.Holding.{number, is_granted}
 use Rattle.xrf_history.specs.Looking.{record_seen}
 use Rattle.xrf_history.specs.Restarting.{has_read_block}
+use Rattle.xrf_history.specs.Next.{next}
 use Rattle.xrf_trace.specs.declared.entry.Entry.{Entry}
 use Rattle.xrf_trace.specs.declared.entry.Act.{Act}
 use Rattle.xrf_trace.specs.declared.entry.Act.TheVariants as act
 use Rattle.xrf_trace.specs.declared.entry.Land.{Land}
 use Rattle.xrf_trace.specs.declared.entry.Land.TheVariants as land
-use Rattle.xrf_trace.specs.Scenario.{Scen, item_at, other}
+use Rattle.xrf_trace.specs.Scenario.{Scen, settings, item_at, other}
 use Rattle.xrf_trace.specs.Words.{is_of, confirmed}
 use Rattle.xrf_trace.specs.Devices.{control, sector1, sector2, message_slot, log_slot, key_slot, image, log_block, key_slots}
 
@@ -27,14 +28,6 @@ known_of t r = record {
   owner = is_some r.owner && confirmed t (inc_of_owner r.owner);
   alt = is_some r.alt && confirmed t (inc_of_alt r.alt);
 }
-
--- an act on a message slot
-abbrev pub is_on_message : Act → Bool
-is_on_message (act.MsgRead k) = true
-is_on_message (act.MsgClose k) = true
-is_on_message (act.MsgBody k message) = true
-is_on_message (act.MsgOpen k message) = true
-is_on_message _ = false
 
 -- the first LOGREAD of a job is handed both keypoint slots too
 abbrev pub block_event : Scen → List Entry → ℕ → Bool → Event
@@ -84,7 +77,7 @@ handed s t x at h (act.Ended reason) = EndedAs reason
 handed s t x at h _ = Ticked
 
 -- The job at a site: its history from its last START on, and none where an ENDED or a stop follows that START.
--- A failed act tells the job that it failed. A TICK reaches the job of each site.
+-- A failed act, which is the next one, tells the job that it failed. A TICK reaches the job of each site.
 abbrev pub after_act : Scen → List Entry → Site → (at : ℕ) → Act → Option (List Event) → Option (List Event)
 after_act s t x at act.StartActive job = Some (StartedActive ∷ [])
 after_act s t x at act.StartStandby job = Some (StartedStandby ∷ [])
@@ -93,7 +86,7 @@ after_act s t x at a job = option_map (λ h. handed s t x at h a ∷ h) job
 
 abbrev pub after_own : Scen → List Entry → Site → (at : ℕ) → Act → Land → Option (List Event) → Option (List Event)
 after_own s t x at a (land.Stop landing) job = None
-after_own s t x at a (land.Fail landing) job = option_map (λ h. ActFailed (is_on_message a) at ∷ h) job
+after_own s t x at a (land.Fail landing) job = option_map (λ h. ActFailed (next (settings s x) h) at ∷ h) job
 after_own s t x at a land.Full job = after_act s t x at a job
 after_own s t x at a land.Lost job = after_act s t x at a job
 

@@ -1,18 +1,17 @@
 -- What is answered, from what is made and what is written.
-use Rattle.std.proofs.Common.{◌≡◌, ◌⊎◌, inl, inr, ◌≤◌, ◌<◌, ◌-◌, ℕ, List, [], length, Option, Some, None, IfSome, ◌↔◌, refl, sym, ◌∙◌, ap, subst, arith}
-use Rattle.std.specs.Io.KnownBytes.{Appends}
+use Rattle.std.proofs.Common.{◌≡◌, inl, inr, ◌<◌, ℕ, List, [], length, Option, Some, None, IfSome, refl, sym, subst, arith}
 use Rattle.xrf_edge.specs.Ends.{ReadToEnd, AppendsPrefix, came}
 use Rattle.xrf_edge.specs.Faults.{HasRisen}
 use Rattle.xrf.specs.Refusals.{IsRefusal, refusal_line}
 use Rattle.xrf.specs.Made.{IsDocument, IsMade}
-use Rattle.xrf.specs.Answer.{End, Said, Refusing, WritesMade, Replayed, Writes, Refuses, FailsWriting, IsText}
+use Rattle.xrf.specs.Answer.{End, Said, Refusing, WritesMade, Replayed, Writes, Refuses, IsText}
 use Rattle.xrf.specs.declared.refusal.Reason.{Reason}
 use Rattle.xrf.specs.declared.refusal.Reason.TheVariants.{TooLarge}
 use Rattle.xrf.specs.declared.made.Made.{Made}
 use Rattle.xrf.specs.declared.made.Made.TheVariants.{Document, Refusal}
 use Rattle.xrf.specs.declared.made.Made.TheVariants.{NoMemory as Nothing}
 use Rattle.xrf.specs.declared.status.Status.{Status}
-use Rattle.xrf.specs.declared.status.Status.TheVariants.{Done, Refused, Usage, ReadFault, WriteFault, NoMemory}
+use Rattle.xrf.specs.declared.status.Status.TheVariants.{WriteFault, NoMemory}
 
 -- what follows of a value that may be there
 pub if-some : {A : Type 0} (P Q : A → Type 0) (o : Option A) → ((x : A) → P x → Q x) → IfSome o P → IfSome o Q

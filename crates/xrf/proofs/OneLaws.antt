@@ -1,19 +1,18 @@
--- One document or one refusal.
-use Rattle.std.proofs.Common.{String, ◌≡◌, ◌⊎◌, inl, inr, ◌≤◌, ◌<◌, ℕ, Bool, true, List, length, Option, Some, None, IfSome, MatchBool, Result, Ok, Err, refl, sym, ◌∙◌, ap, subst, arith}
+-- At most one document, at most one refusal, and never both.
+use Rattle.std.proofs.Common.{String, ◌≡◌, ◌⊎◌, inl, inr, ℕ, Bool, List, slice_get, Option, Some, IfSome, MatchBool, Result, Ok, Err, refl, sym, ◌∙◌, ap, subst, arith}
 use Rattle.std.specs.Global.{Global}
 use Rattle.xrf_edge.specs.Faults.{HasRisen}
 use Rattle.xrf_scenario.specs.Scenario.{Scen}
-use Rattle.xrf_scenario.specs.declared.choice.Choice.{Choice}
 use Rattle.xrf_scenario.specs.declared.scenario.Numbered.{Numbered}
-use Rattle.xrf_scenario.proofs.TextLaws.{one_reading, never_both}
+use Rattle.xrf_scenario.proofs.TextLaws.{one_reading, never_both, one_fault}
 use Rattle.xrf_world.specs.declared.entry.Entry.{Entry}
 use Rattle.xrf_world.specs.Runs.{run, Refusal}
 use Rattle.xrf_report.specs.Document.{doc}
-use Rattle.xrf.specs.Words.{is_replay}
-use Rattle.xrf.specs.Refusals.{plain, most, IsRefusal, Stops}
+use Rattle.xrf.specs.Refusals.{plain, Stops}
+use Rattle.xrf_world.specs.declared.entry.Refused.{Refused as Why}
+use Rattle.xrf_world.specs.declared.entry.Refused.TheVariants.{NotEnabled}
 use Rattle.xrf.specs.Made.{IsDocument}
-use Rattle.xrf.specs.Answer.{End, Replayed, ToldUsage, Answered, Complete, OneText, NeverRefused}
-use Rattle.xrf.specs.declared.refusal.Reason.{Reason}
+use Rattle.xrf.specs.Answer.{End, Replayed, ToldUsage, Answered, Complete, OneText, OneRefusal, NeverRefused}
 use Rattle.xrf.specs.declared.refusal.Reason.TheVariants.{TooLarge, Grammar, Choosing}
 use Rattle.xrf.specs.declared.status.Status.{Status}
 use Rattle.xrf.specs.declared.status.Status.TheVariants.{Done, Refused, Usage, ReadFault, WriteFault, NoMemory}
@@ -34,6 +33,40 @@ never_refused bytes text number (Choosing reason) d r =
     let same = one_reading bytes d.scenario r.1.scenario d.choices r.1.choices d.reads r.1.reads in
     let clash = sym d.is_run ∙ same_run d.scenario r.1.scenario d.choices r.1.choices same.0 same.1 ∙ r.1.stopped in
     cc
+
+-- where a run stopped, and why
+abbrev place_in : Result (List Entry) Refusal → ℕ
+place_in (Ok trace) = 0
+place_in (Err stopped) = stopped.place
+
+abbrev reason_in : Result (List Entry) Refusal → Why
+reason_in (Ok trace) = NotEnabled
+reason_in (Err stopped) = stopped.reason
+
+-- a run stops at one choice
+one_stop : (bytes : List ℕ) (number number' : ℕ) (reason reason' : Why) → Stops bytes number reason → Stops bytes number' reason' → (number ≡ number') × (reason ≡ reason')
+one_stop bytes number number' reason reason' a b =
+    let same = one_reading bytes a.scenario b.scenario a.choices b.choices a.reads b.reads in
+    let ends = sym a.stopped ∙ same_run a.scenario b.scenario a.choices b.choices same.0 same.1 ∙ b.stopped in
+    let places : a.place ≡ b.place = ap place_in ends in
+    let reasons : reason ≡ reason' = ap reason_in ends in
+    let found : slice_get a.choices a.place ≡ slice_get b.choices b.place = ap (λ (l : List Numbered). slice_get l a.place) same.1 ∙ ap (λ (n : ℕ). slice_get b.choices n) places in
+    let some = sym a.at ∙ found ∙ b.at in
+    let stopping : a.stopping ≡ b.stopping = cc in
+    (a.line ∙ ap (λ (c : Numbered). c.line) stopping ∙ sym b.line, reasons)
+
+pub one_refusal : OneRefusal
+one_refusal bytes number number' TooLarge TooLarge a b = (a.1 ∙ sym b.1, refl)
+one_refusal bytes number number' TooLarge (Grammar reason') a b = absurd (omega (arith, a.0, b.0))
+one_refusal bytes number number' TooLarge (Choosing reason') a b = absurd (omega (arith, a.0, b.0))
+one_refusal bytes number number' (Grammar reason) TooLarge a b = absurd (omega (arith, a.0, b.0))
+one_refusal bytes number number' (Grammar reason) (Grammar reason') a b =
+    let same = one_fault bytes number number' reason reason' a.1 b.1 in (same.0, ap Grammar same.1)
+one_refusal bytes number number' (Grammar reason) (Choosing reason') a b = absurd (never_both bytes b.1.scenario b.1.choices number reason b.1.reads a.1)
+one_refusal bytes number number' (Choosing reason) TooLarge a b = absurd (omega (arith, a.0, b.0))
+one_refusal bytes number number' (Choosing reason) (Grammar reason') a b = absurd (never_both bytes a.1.scenario a.1.choices number' reason' a.1.reads b.1)
+one_refusal bytes number number' (Choosing reason) (Choosing reason') a b =
+    let same = one_stop bytes number number' reason reason' a.1 b.1 in (same.0, ap Choosing same.1)
 
 -- where a value is there, what holds of it if it is there holds
 pub there : {A : Type 0} (P : A → Type 0) (o : Option A) (x : A) → o ≡ Some x → IfSome o P → P x

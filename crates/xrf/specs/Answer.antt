@@ -1,5 +1,5 @@
 -- What the top call answers, and what it has written then.
-use Rattle.std.specs.Prelude.{◌≡◌, ◌⊎◌, ℕ, true, false, List, [], Option, Some, IfSome, MatchBool, String}
+use Rattle.std.specs.Prelude.{◌≡◌, ◌⊎◌, ℕ, true, List, [], Option, Some, IfSome, MatchBool, String}
 use Rattle.std.specs.Global.{Global}
 use Rattle.std.specs.Io.KnownBytes.{Appends}
 use Rattle.xrf_edge.specs.Ends.{AppendsPrefix}
@@ -75,9 +75,12 @@ WritesMade sink sink' (Document text) status = Said sink sink' text.items Done s
 WritesMade sink sink' (Refusal number reason) status = Refusing sink sink' number reason status
 WritesMade sink sink' Nothing status = (status ≡ NoMemory) × (sink' ≡ sink)
 
--- Of an input there is one document or one refusal, never both.
+-- An input has at most one document, at most one refusal, and never both.
 abbrev pub OneText : Type 0
 OneText = (bytes text text' : List ℕ) → IsDocument bytes text → IsDocument bytes text' → text ≡ text'
+
+abbrev pub OneRefusal : Type 0
+OneRefusal = (bytes : List ℕ) (number number' : ℕ) (reason reason' : Reason) → IsRefusal bytes number reason → IsRefusal bytes number' reason' → (number ≡ number') × (reason ≡ reason')
 
 abbrev pub NeverRefused : Type 0
 NeverRefused = (bytes text : List ℕ) (number : ℕ) (reason : Reason) → IsDocument bytes text → IsRefusal bytes number reason → ⊥

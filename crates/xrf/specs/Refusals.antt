@@ -1,5 +1,5 @@
 -- Why an input is refused, and at which line.
-use Rattle.std.specs.Prelude.{◌≡◌, ℕ, ◌≤◌, ◌<◌, List, ◌++◌, codes, map, length, slice_get, Some, Result, Err}
+use Rattle.std.specs.Prelude.{◌≡◌, ℕ, ◌≤◌, ◌<◌, List, ◌++◌, codes, map, length, slice_get, Some, Err}
 use Rattle.std.specs.Fmt.{decimal}
 use Rattle.xrf_scenario.specs.Scenario.{Scen}
 use Rattle.xrf_scenario.specs.Reading.{Reads, HasBad}
@@ -11,7 +11,7 @@ use Rattle.xrf_scenario.specs.declared.reason.Reason as grammar
 use Rattle.xrf_scenario.specs.declared.reason.Reason.TheVariants.{NotBuilt, NoEnd}
 use Rattle.xrf_world.specs.declared.entry.Refused.{Refused}
 use Rattle.xrf_world.specs.declared.entry.Refused.TheVariants.{NotEnabled}
-use Rattle.xrf_world.specs.Runs.{run, Refusal}
+use Rattle.xrf_world.specs.Runs.{run}
 use Rattle.xrf.specs.declared.refusal.Reason.{Reason}
 use Rattle.xrf.specs.declared.refusal.Reason.TheVariants.{TooLarge, Grammar, Choosing}
 

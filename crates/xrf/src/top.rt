@@ -3,7 +3,7 @@
 ghost use Rattle.std.specs.Prelude.{◌≡◌, ◌≤◌, false, true, nat_eq, string_bytes, codes};
 ghost use Rattle.std.specs.Cmp.Lexicographic.{pointwise};
 ghost use Rattle.xrf.specs.Words.{is_replay, usage_line};
-ghost use Rattle.xrf.specs.Answer.{End, Answered, Said, Refusing, WritesMade, Replayed, Complete, OneText, NeverRefused};
+ghost use Rattle.xrf.specs.Answer.{End, Answered, Said, Refusing, WritesMade, Replayed, Complete, OneText, OneRefusal, NeverRefused};
 
 use crate::made::{Made, made_of};
 use crate::refusal::{Reason, refusal_text};
@@ -102,9 +102,9 @@ pub fn batch<S: Source, K: Sink>(
     answer(alloc, words, source, sink)
 }
 
-/// Of an input there is one document or one refusal, never both: so Done and Refused come exactly
-/// where the input has the one or the other, but for faults of the ends and want of memory.
+/// An input has at most one document, at most one refusal, and never both.
 pub fn one_answer()
     ensures text { OneText }
+    ensures one { OneRefusal }
     ensures refusal { NeverRefused }
 {}

@@ -1,4 +1,4 @@
-use Rattle.xrf.proofs.OneLaws.{one_text, never_refused}
+use Rattle.xrf.proofs.OneLaws.{one_text, one_refusal, never_refused}
 use Rattle.xrf.proofs.top.one_answer.Goals as goal
 
 pub returns-clause-text : goal.returns-clause-text
@@ -6,3 +6,6 @@ returns-clause-text c = one_text
 
 pub returns-clause-refusal : goal.returns-clause-refusal
 returns-clause-refusal c = never_refused
+
+pub returns-clause-one : goal.returns-clause-one
+returns-clause-one c = one_refusal

@@ -6,7 +6,8 @@ use Rattle.xrf.specs.Refusals.{IsRefusal, refusal_line}
 use Rattle.xrf.specs.Made.{IsDocument, IsMade}
 use Rattle.xrf.specs.Answer.{End, Said, Refusing, WritesMade, Replayed, Writes, Refuses, IsText}
 use Rattle.xrf.specs.declared.refusal.Reason.{Reason}
-use Rattle.xrf.specs.declared.refusal.Reason.TheVariants.{TooLarge}
+use Rattle.xrf.specs.declared.refusal.Reason.TheVariants.{Grammar}
+use Rattle.xrf_forms.specs.declared.reason.Reason.TheVariants.{TooLarge}
 use Rattle.xrf.specs.declared.made.Made.{Made}
 use Rattle.xrf.specs.declared.made.Made.TheVariants.{Document, Refusal}
 use Rattle.xrf.specs.declared.made.Made.TheVariants.{NoMemory as Nothing}
@@ -61,10 +62,10 @@ replayed source source' sink sink' text (Refusal number reason) status read is w
 replayed source source' sink sink' text (Document out) status read is (inl said) =
     subst (Replayed source source' sink sink') (sym said.0)
     (if-some (λ bytes. IsDocument bytes out.items × (source'.bytes ≡ Some [])) (λ bytes. Writes bytes source' sink sink') source.bytes
-    (λ bytes r. record { text = out.items; is = r.0; read = r.1; grown = said.1 }) (told source source' text (λ bytes. IsDocument bytes out.items) read is))
+    (λ bytes r. record { text = out.items; is = r.0; again = is.1; read = r.1; grown = said.1 }) (told source source' text (λ bytes. IsDocument bytes out.items) read is.0))
 replayed source source' sink sink' text (Document out) status read is (inr failed) =
     fails source source' sink sink' status out.items
-    (if-some (λ bytes. IsDocument bytes out.items × (source'.bytes ≡ Some [])) (λ bytes. IsText bytes out.items) source.bytes (λ bytes r. inl r.0) (told source source' text (λ bytes. IsDocument bytes out.items) read is))
+    (if-some (λ bytes. IsDocument bytes out.items × (source'.bytes ≡ Some [])) (λ bytes. IsText bytes out.items) source.bytes (λ bytes r. inl r.0) (told source source' text (λ bytes. IsDocument bytes out.items) read is.0))
     failed.0 failed.1 failed.2
 
 -- where more came than is allowed, the input is larger
@@ -72,9 +73,9 @@ came-more : (most : ℕ) (bytes : List ℕ) (new : Option (List ℕ)) → most <
 came-more most bytes None h = absurd (omega arith)
 came-more most bytes (Some left) h = omega arith
 
-pub too_large : (source source' : End) → IfSome source.bytes (λ bytes. 4194304 < came source.bytes source'.bytes) → IfSome source.bytes (λ bytes. IsRefusal bytes 0 TooLarge)
+pub too_large : (source source' : End) → IfSome source.bytes (λ bytes. 4194304 < came source.bytes source'.bytes) → IfSome source.bytes (λ bytes. IsRefusal bytes 0 (Grammar TooLarge))
 too_large source source' h = by source.bytes source'.bytes h
   where
-    by : (o o' : Option (List ℕ)) → IfSome o (λ bytes. 4194304 < came o o') → IfSome o (λ bytes. IsRefusal bytes 0 TooLarge)
+    by : (o o' : Option (List ℕ)) → IfSome o (λ bytes. 4194304 < came o o') → IfSome o (λ bytes. IsRefusal bytes 0 (Grammar TooLarge))
     by None o' h = tt
-    by (Some bytes) o' h = (came-more 4194304 bytes o' h, refl)
+    by (Some bytes) o' h = inl (came-more 4194304 bytes o' h, refl, refl)

@@ -23,10 +23,12 @@ pub record End : Type 0 where
 abbrev pub Said : End → End → List ℕ → Status → Status → Type 0
 Said sink sink' text status result = ((result ≡ status) × Appends sink.bytes sink'.bytes text) ⊎ ((result ≡ WriteFault) × HasRisen sink.faults sink'.faults × AppendsPrefix sink.bytes sink'.bytes text)
 
--- The sink has grown by the document of the input, which was read to its end.
+-- The sink has grown by the document of the input, which was read to its end. A document replays to
+-- itself: as an input it has the same document.
 pub record Writes (bytes : List ℕ) (source' : End) (sink sink' : End) : Type 0 where
   pub text : List ℕ
   pub is : IsDocument bytes text
+  pub again : IsDocument text text
   pub read : source'.bytes ≡ Some []
   pub grown : Appends sink.bytes sink'.bytes text
 

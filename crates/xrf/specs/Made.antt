@@ -2,12 +2,14 @@
 use Rattle.std.specs.Prelude.{◌≡◌, ℕ, ◌≤◌, List, length, Result, Ok, Err}
 use Rattle.xrf_scenario.specs.Scenario.{Scen}
 use Rattle.xrf_scenario.specs.Reading.{Reads}
-use Rattle.xrf_scenario.specs.declared.scenario.Numbered.{Numbered}
+use Rattle.xrf_scenario.specs.declared.built.Forms.TheVariants.{Built}
+use Rattle.xrf_scenario.specs.declared.numbered.Numbered.{Numbered}
 use Rattle.xrf_world.specs.declared.entry.Entry.{Entry}
+use Rattle.xrf_world.specs.Base.{base_of}
 use Rattle.xrf_world.specs.Runs.{run, Run}
 use Rattle.xrf_report.specs.Document.{doc}
 use Rattle.xrf.specs.Refusals.{plain, most, IsRefusal}
-use Rattle.xrf_scenario.specs.declared.choice.Choice.{Choice}
+use Rattle.xrf_forms.specs.declared.choice.Choice.{Choice}
 use Rattle.xrf.specs.declared.running.Stop.{Stop}
 use Rattle.xrf.specs.declared.made.Made.{Made}
 use Rattle.xrf.specs.declared.made.Made.TheVariants.{Document, Refusal, NoMemory}
@@ -17,9 +19,9 @@ pub record IsDocument (bytes text : List ℕ) : Type 0 where
   pub scenario : Scen
   pub choices : List Numbered
   pub size : length bytes ≤ most
-  pub reads : Reads bytes scenario choices
+  pub reads : Reads Built bytes scenario choices
   pub trace : List Entry
-  pub is_run : run scenario (plain choices) ≡ Ok trace
+  pub is_run : run (base_of scenario) (plain choices) ≡ Ok trace
   pub document : text ≡ doc scenario (plain choices)
 
 -- All choices of a run were made, and the World has its trace; or the run stops at one.
@@ -27,8 +29,9 @@ abbrev pub RunGives : Run → List Choice → Result (Unit {0}) Stop → Run →
 RunGives old choices (Ok done) new = (run old.scenario choices ≡ Ok new.trace) × (new.scenario ≡ old.scenario)
 RunGives old choices (Err stop) new = run old.scenario choices ≡ Err (record { place = stop.place; reason = stop.reason })
 
--- what is made of an input is its document, or its refusal, unless memory runs out
+-- What is made of an input is its document, which as an input has the same document; or its refusal,
+-- unless memory runs out.
 abbrev pub IsMade : List ℕ → Made → Type 0
-IsMade bytes (Document text) = IsDocument bytes text.items
+IsMade bytes (Document text) = IsDocument bytes text.items × IsDocument text.items text.items
 IsMade bytes (Refusal number reason) = IsRefusal bytes number reason
 IsMade bytes NoMemory = Unit {0}

@@ -1,19 +1,21 @@
 -- Why an input is refused, and at which line.
-use Rattle.std.specs.Prelude.{◌≡◌, ℕ, ◌≤◌, ◌<◌, List, ◌++◌, codes, map, length, slice_get, Some, Err}
+use Rattle.std.specs.Prelude.{◌≡◌, ◌⊎◌, ℕ, ◌≤◌, ◌<◌, List, ◌++◌, codes, map, length, slice_get, Some, Err}
 use Rattle.std.specs.Fmt.{decimal}
 use Rattle.xrf_scenario.specs.Scenario.{Scen}
 use Rattle.xrf_scenario.specs.Reading.{Reads, HasBad}
 use Rattle.xrf_scenario.specs.Canonical.{fed}
-use Rattle.xrf_scenario.specs.Spelling.{blank}
-use Rattle.xrf_scenario.specs.declared.choice.Choice.{Choice}
-use Rattle.xrf_scenario.specs.declared.scenario.Numbered.{Numbered}
-use Rattle.xrf_scenario.specs.declared.reason.Reason as grammar
-use Rattle.xrf_scenario.specs.declared.reason.Reason.TheVariants.{NotBuilt, NoEnd}
+use Rattle.xrf_report.specs.Words.{blank}
+use Rattle.xrf_forms.specs.declared.choice.Choice.{Choice}
+use Rattle.xrf_scenario.specs.declared.built.Forms.TheVariants.{Built}
+use Rattle.xrf_scenario.specs.declared.numbered.Numbered.{Numbered}
+use Rattle.xrf_forms.specs.declared.reason.Reason as grammar
+use Rattle.xrf_forms.specs.declared.reason.Reason.TheVariants.{TooLarge, BadByte, LongLine, NoHeader, BadFormat, ChoicesGiven, AfterEnd, UnknownWord, WordCount, BadSite, BadNumber, OutOfRange, BadName, BadValue, BadHex, BadOption, BadItem, BadCebt, BadPlan, PlanOrder, Twice, TooMany, RrnRange, NoEnd, NotBuilt}
+use Rattle.xrf_world.specs.Base.{base_of}
 use Rattle.xrf_world.specs.declared.entry.Refused.{Refused}
 use Rattle.xrf_world.specs.declared.entry.Refused.TheVariants.{NotEnabled}
 use Rattle.xrf_world.specs.Runs.{run}
 use Rattle.xrf.specs.declared.refusal.Reason.{Reason}
-use Rattle.xrf.specs.declared.refusal.Reason.TheVariants.{TooLarge, Grammar, Choosing}
+use Rattle.xrf.specs.declared.refusal.Reason.TheVariants.{Grammar, Choosing}
 
 -- the most bytes that an input may have
 abbrev pub most : ℕ
@@ -27,29 +29,50 @@ plain numbered = map (λ n. n.choice) numbered
 pub record Stops (bytes : List ℕ) (number : ℕ) (reason : Refused) : Type 0 where
   pub scenario : Scen
   pub choices : List Numbered
-  pub reads : Reads bytes scenario choices
+  pub reads : Reads Built bytes scenario choices
   pub place : ℕ
-  pub stopped : run scenario (plain choices) ≡ Err (record { place = place; reason = reason })
+  pub stopped : run (base_of scenario) (plain choices) ≡ Err (record { place = place; reason = reason })
   pub stopping : Numbered
   pub at : slice_get choices place ≡ Some stopping
   pub line : number ≡ stopping.line
 
--- The input is refused at a line for a reason: it is too large, which is said at line 0; or else
--- its grammar is bad first there; or else the run stops there.
+-- The input is refused at a line for a reason: it is too large, which is said at line 0; or else its
+-- grammar is bad first there; or else the run stops there.
 abbrev pub IsRefusal : List ℕ → ℕ → Reason → Type 0
-IsRefusal bytes number TooLarge = (most < length bytes) × (number ≡ 0)
-IsRefusal bytes number (Grammar reason) = (length bytes ≤ most) × HasBad bytes number reason
+IsRefusal bytes number (Grammar reason) = ((most < length bytes) × (number ≡ 0) × (reason ≡ TooLarge)) ⊎ ((length bytes ≤ most) × HasBad Built bytes number reason)
 IsRefusal bytes number (Choosing reason) = (length bytes ≤ most) × Stops bytes number reason
 
 abbrev pub grammar_text : grammar.Reason → List ℕ
-grammar_text NotBuilt = codes "NOT-BUILT"
+grammar_text TooLarge = codes "TOO-LARGE"
+grammar_text BadByte = codes "BAD-BYTE"
+grammar_text LongLine = codes "LONG-LINE"
+grammar_text NoHeader = codes "NO-HEADER"
+grammar_text BadFormat = codes "BAD-FORMAT"
+grammar_text ChoicesGiven = codes "CHOICES-GIVEN"
+grammar_text AfterEnd = codes "AFTER-END"
+grammar_text UnknownWord = codes "UNKNOWN-WORD"
+grammar_text WordCount = codes "WORD-COUNT"
+grammar_text BadSite = codes "BAD-SITE"
+grammar_text BadNumber = codes "BAD-NUMBER"
+grammar_text OutOfRange = codes "OUT-OF-RANGE"
+grammar_text BadName = codes "BAD-NAME"
+grammar_text BadValue = codes "BAD-VALUE"
+grammar_text BadHex = codes "BAD-HEX"
+grammar_text BadOption = codes "BAD-OPTION"
+grammar_text BadItem = codes "BAD-ITEM"
+grammar_text BadCebt = codes "BAD-CEBT"
+grammar_text BadPlan = codes "BAD-PLAN"
+grammar_text PlanOrder = codes "PLAN-ORDER"
+grammar_text Twice = codes "TWICE"
+grammar_text TooMany = codes "TOO-MANY"
+grammar_text RrnRange = codes "RRN-RANGE"
 grammar_text NoEnd = codes "NO-END"
+grammar_text NotBuilt = codes "NOT-BUILT"
 
 abbrev pub choosing_text : Refused → List ℕ
 choosing_text NotEnabled = codes "NOT-ENABLED"
 
 abbrev pub reason_text : Reason → List ℕ
-reason_text TooLarge = codes "TOO-LARGE"
 reason_text (Grammar reason) = grammar_text reason
 reason_text (Choosing reason) = choosing_text reason
 

@@ -2,17 +2,20 @@
 
 ghost use Rattle.std.specs.Prelude.{◌≡◌, ◌≤◌, [], IfOk, OnOk, length, ◌<◌, Some, slice_get, List, ℕ};
 ghost use Rattle.xrf.specs.Made.{IsMade};
-ghost use Rattle.xrf_scenario.specs.declared.scenario.Numbered.{Numbered};
+ghost use Rattle.xrf_scenario.specs.declared.numbered.Numbered.{Numbered};
 ghost use Rattle.xrf.specs.declared.made.Made.TheVariants.{Refusal};
 ghost use Rattle.xrf.specs.declared.refusal.Reason.TheVariants.{Choosing};
 ghost use Rattle.xrf.specs.Refusals.{plain};
+ghost use Rattle.xrf_scenario.specs.Built.{IsBuilt, AreBuilt};
+ghost use Rattle.xrf_scenario.specs.Canonical.{AreChoices};
 ghost use Rattle.xrf_scenario.specs.Reading.{Reads};
+ghost use Rattle.xrf_scenario.specs.declared.built.Forms.TheVariants.{Built};
 
 use crate::refusal::Reason;
 use crate::running::{Stop, make_all};
 use std::alloc::{AllocError, Global};
 use xrf_report::document;
-use xrf_scenario::{Choice, Numbered, ReadBad, Scenario, read};
+use xrf_scenario::{Choice, Forms, Numbered, ReadBad, Scenario, read_forms};
 use xrf_world::World;
 
 /// What is made of an input.
@@ -45,8 +48,9 @@ fn stopped(numbered: &[Numbered], stop: Stop) -> Made
 
 // the document of a scenario and its choices, or the refusal of one of them
 fn ran(alloc: Global, scenario: &Scenario, numbered: &[Numbered]) -> Result<Made, AllocError>
-    requires few { length numbered.now ≤ 8192 }
-    ensures { (bytes : List ℕ) → length bytes ≤ 4194304 → Reads bytes scenario.now numbered.now → IfOk result (IsMade bytes) }
+    requires choices { AreChoices (plain numbered.now) }
+    requires built { IsBuilt scenario.now × AreBuilt (plain numbered.now) }
+    ensures { (bytes : List ℕ) → length bytes ≤ 4194304 → Reads Built bytes scenario.now numbered.now → IfOk result (IsMade bytes) }
 {
     let choices = plain(alloc, numbered)?;
     let mut world = World::new(alloc, scenario)?;
@@ -60,9 +64,9 @@ fn made_of_text(alloc: Global, text: &[u8]) -> Result<Made, AllocError>
     requires { length text.now ≤ 4194304 }
     ensures { IfOk result (IsMade text.now) }
 {
-    match read(alloc, text) {
+    match read_forms(alloc, Forms::Built, text) {
         Ok((scenario, numbered)) => ran(alloc, &scenario, &numbered),
-        Err(ReadBad::Bad(fault)) => Ok(Made::Refusal(fault.line, Reason::Grammar(fault.reason))),
+        Err(ReadBad::Bad { line, reason }) => Ok(Made::Refusal(line, Reason::Grammar(reason))),
         Err(ReadBad::NoMemory) => Ok(Made::NoMemory),
     }
 }

@@ -5,26 +5,48 @@ ghost use Rattle.xrf.specs.Refusals.{grammar_text, choosing_text, reason_text, r
 
 use Piece::{Number, Text};
 use std::alloc::{AllocError, Global};
-use xrf_scenario::pieces::{Piece, put};
+use xrf_forms::writing::{Piece, put};
+use xrf_scenario::Reason as Fault;
 use xrf_world::Refused;
 
 /// Why an input is refused.
 #[derive(Clone, Copy)]
 pub enum Reason {
-    /// It has more bytes than are allowed.
-    TooLarge,
-    /// A line is refused.
-    Grammar(xrf_scenario::Reason),
+    /// It is too large, or a line is refused.
+    Grammar(Fault),
     /// A choice is refused.
     Choosing(Refused),
 }
 
-fn grammar_word(reason: xrf_scenario::Reason) -> &'static [u8]
+fn grammar_word(reason: Fault) -> &'static [u8]
     ensures { result.now ≡ grammar_text reason }
 {
     match reason {
-        xrf_scenario::Reason::NotBuilt => b"NOT-BUILT",
-        xrf_scenario::Reason::NoEnd => b"NO-END",
+        Fault::TooLarge => b"TOO-LARGE",
+        Fault::BadByte => b"BAD-BYTE",
+        Fault::LongLine => b"LONG-LINE",
+        Fault::NoHeader => b"NO-HEADER",
+        Fault::BadFormat => b"BAD-FORMAT",
+        Fault::ChoicesGiven => b"CHOICES-GIVEN",
+        Fault::AfterEnd => b"AFTER-END",
+        Fault::UnknownWord => b"UNKNOWN-WORD",
+        Fault::WordCount => b"WORD-COUNT",
+        Fault::BadSite => b"BAD-SITE",
+        Fault::BadNumber => b"BAD-NUMBER",
+        Fault::OutOfRange => b"OUT-OF-RANGE",
+        Fault::BadName => b"BAD-NAME",
+        Fault::BadValue => b"BAD-VALUE",
+        Fault::BadHex => b"BAD-HEX",
+        Fault::BadOption => b"BAD-OPTION",
+        Fault::BadItem => b"BAD-ITEM",
+        Fault::BadCebt => b"BAD-CEBT",
+        Fault::BadPlan => b"BAD-PLAN",
+        Fault::PlanOrder => b"PLAN-ORDER",
+        Fault::Twice => b"TWICE",
+        Fault::TooMany => b"TOO-MANY",
+        Fault::RrnRange => b"RRN-RANGE",
+        Fault::NoEnd => b"NO-END",
+        Fault::NotBuilt => b"NOT-BUILT",
     }
 }
 
@@ -40,7 +62,6 @@ fn word(reason: Reason) -> &'static [u8]
     ensures { result.now ≡ reason_text reason }
 {
     match reason {
-        Reason::TooLarge => b"TOO-LARGE",
         Reason::Grammar(reason) => grammar_word(reason),
         Reason::Choosing(refused) => choosing_word(refused),
     }

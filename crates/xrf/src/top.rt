@@ -10,6 +10,7 @@ use crate::refusal::{Reason, refusal_text};
 use crate::status::Status;
 use std::alloc::Global;
 use xrf_edge::{ReadError, Sink, Source, read_all, write_all};
+use xrf_scenario::Reason as Fault;
 
 const MOST: usize = 4_194_304;
 
@@ -65,7 +66,7 @@ fn replay<S: Source, K: Sink>(alloc: Global, source: &mut S, sink: &mut K) -> St
     match read_all(alloc, source, MOST) {
         Ok(text) => write_made(alloc, sink, made_of(alloc, &text)),
         Err(ReadError::Fault) => Status::ReadFault,
-        Err(ReadError::TooLarge) => refuse(alloc, sink, 0, Reason::TooLarge),
+        Err(ReadError::TooLarge) => refuse(alloc, sink, 0, Reason::Grammar(Fault::TooLarge)),
         Err(ReadError::NoMemory) => Status::NoMemory,
     }
 }

@@ -1,6 +1,7 @@
 -- The first blank of a text, texts that have none, and the reading of file slots.
-use Rattle.std.proofs.Common.{◌≡◌, ◌≤◌, ◌+◌, ◌-◌, ◌==◌, ◌&&◌, ℕ, zero, suc, Bool, true, false, cond, if◌then◌else◌, Option, Some, None, List, [], ◌∷◌, ◌++◌, length, take, take_all, drop, replicate, refl, sym, ◌∙◌, ap, nat_lt, nat_eq, nat_le, arith, IfSome, IfNone, subst}
-use Rattle.std.proofs.lemmas.Bool.{ltb-false, eqb-true}
+use Rattle.std.proofs.Common.{◌≡◌, ◌≤◌, ◌-◌, ◌==◌, ◌&&◌, ℕ, zero, suc, Bool, true, false, cond, if◌then◌else◌, Option, Some, None, List, [], ◌∷◌, ◌++◌, length, take, take_all, drop, replicate, refl, sym, ◌∙◌, ap, nat_lt, nat_eq, nat_le, arith, IfSome, IfNone, subst}
+use Rattle.std.proofs.lemmas.Bool.{ltb-false, ne_eqb, and_parts}
+use Rattle.std.proofs.Math.Seq.{take-add}
 use Rattle.xrf_base.specs.Names.{is_name_byte}
 use Rattle.std.specs.List.{position_or_len, position, list_all, before_first}
 use Rattle.std.specs.Option.{option_map, option_and_then}
@@ -24,46 +25,25 @@ position-none p xs h = by (nat_lt (position_or_len p xs) (length xs)) refl h
     by true t e = cc
     by false t e = let all : length xs ≤ position_or_len p xs = omega (arith, ltb-false) in sym (take_all (position_or_len p xs) xs all)
 
--- both sides of a test that passes pass
-pub both-left : (a b : Bool) → (a && b) ≡ true → a ≡ true
-both-left true b h = refl
-both-left false b h = h
-
-pub both-right : (a b : Bool) → (a && b) ≡ true → b ≡ true
-both-right true b h = h
-both-right false b h = absurd (cc)
-
--- the front of a list as long as one more than a front
-take-one-more : (x : ℕ) (xs : List ℕ) (n : ℕ) → take (1 + n) (x ∷ xs) ≡ x ∷ take n xs
-take-one-more x xs n = let e : 1 + n ≡ suc n = omega arith in rw e refl
-
 -- a text of characters that are no blank, padded, reads as itself
 pub unpadded-padded : (test : ℕ → Bool) → ((b : ℕ) → test b ≡ true → (b == 32) ≡ false) → (text : List ℕ) (count : ℕ) → list_all test text ≡ true → unpadded (text ++ replicate count 32) ≡ text
 unpadded-padded test apart [] zero all = refl
 unpadded-padded test apart [] (suc count) all = refl
 unpadded-padded test apart (x ∷ xs) count all =
-    let other : (x == 32) ≡ false = apart x (both-left (test x) (list_all test xs) all) in
-    let rest = unpadded-padded test apart xs count (both-right (test x) (list_all test xs) all) in
-    rw other (take-one-more x (xs ++ replicate count 32) (position_or_len (λ b. b == 32) (xs ++ replicate count 32)) ∙ ap (λ (l : List ℕ). x ∷ l) rest)
-
--- a number other than another tests so
-other-number : (a b : ℕ) → (a ≡ b → ⊥) → (a == b) ≡ false
-other-number a b apart = by (a == b) refl
-  where
-    by : (t : Bool) → (a == b) ≡ t → t ≡ false
-    by true e = absurd (apart (eqb-true a b e))
-    by false e = refl
+    let other : (x == 32) ≡ false = apart x (and_parts (test x) (list_all test xs) all).0 in
+    let rest = unpadded-padded test apart xs count (and_parts (test x) (list_all test xs) all).1 in
+    rw other (take-add 1 (position_or_len (λ b. b == 32) (xs ++ replicate count 32)) (x ∷ (xs ++ replicate count 32)) ∙ ap (λ (l : List ℕ). x ∷ l) rest)
 
 -- no character of a value is a blank
 pub value-no_blank : (b : ℕ) → is_value_byte b ≡ true → (b == 32) ≡ false
-value-no_blank b h = other-number b 32 (λ e. absurd-value (subst (λ (n : ℕ). is_value_byte n ≡ true) e h))
+value-no_blank b h = ne_eqb b 32 (λ e. absurd-value (subst (λ (n : ℕ). is_value_byte n ≡ true) e h))
   where
     absurd-value : is_value_byte 32 ≡ true → ⊥
     absurd-value e = cc
 
 -- no character of a name is a blank
 pub name-no_blank : (b : ℕ) → is_name_byte b ≡ true → (b == 32) ≡ false
-name-no_blank b h = other-number b 32 (λ e. absurd-name (subst (λ (n : ℕ). is_name_byte n ≡ true) e h))
+name-no_blank b h = ne_eqb b 32 (λ e. absurd-name (subst (λ (n : ℕ). is_name_byte n ≡ true) e h))
   where
     absurd-name : is_name_byte 32 ≡ true → ⊥
     absurd-name e = cc
@@ -96,7 +76,7 @@ record_reading-some bytes value h = by (value_of field) refl h
 -- and a value that is spelled so is read
 pub record_reading-slot : (value : List ℕ) → IsValue value → record_reading (slot_of (Some value)) ≡ Some value
 record_reading-slot value fits =
-    let front : unpadded (drop 8 (slot_of (Some value))) ≡ value = unpadded-padded is_value_byte value-no_blank value (24 - length value) (both-right (nat_le 1 (length value) && nat_le (length value) 24) (list_all is_value_byte value) fits) in
+    let front : unpadded (drop 8 (slot_of (Some value))) ≡ value = unpadded-padded is_value_byte value-no_blank value (24 - length value) (and_parts (nat_le 1 (length value) && nat_le (length value) 24) (list_all is_value_byte value) fits).1 in
     let spelled : value_of value ≡ Some value = rw fits refl in
     let same : pointwise nat_eq (slot_of (Some value)) (slot_of (Some value)) ≡ true = nat_list_eq_equiv.refl (slot_of (Some value)) in
     record_reading-is (slot_of (Some value)) value (Some value) (sym front) spelled ∙ rw same refl

@@ -9,6 +9,7 @@ pub mod numbers;
 pub mod site;
 pub mod values;
 
+pub use blanks::padded_array;
 pub use items::{Item, ItemAnswer, UnitId};
 pub use limits::Limits;
 pub use names::Name8;

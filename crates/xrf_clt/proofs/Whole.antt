@@ -4,24 +4,24 @@ use Rattle.std.specs.List.{AllByRecursion}
 use Rattle.xrf_text.specs.Text.{words}
 use Rattle.xrf_clt.specs.declared.CltReason.{CltReason}
 use Rattle.xrf_clt.specs.Kept.{Kept}
-use Rattle.xrf_clt.specs.Lines.{line_words, line_kept, fault_of}
+use Rattle.xrf_clt.specs.Lines.{line_words, line_kept, words_kept, fault_of}
 use Rattle.xrf_clt.specs.Table.{AreKept, IsFirstFault}
-use Rattle.xrf_clt.proofs.Rows.{row_kept, after_fault, continue, continue_gives, Gives, AllKept, StopsAt}
+use Rattle.xrf_clt.proofs.Rows.{after_fault, continue, continue_gives, Gives, AllKept, StopsAt}
 use Rattle.xrf_clt.proofs.Faultless.{Spelled, faultless}
 
 -- what is kept of a text that spells a line is what is kept of the line
-one_line : (text : List ℕ) (texts : List (List ℕ)) (kept : List Kept) → Spelled (words text) → AreKept texts kept → AreKept (text ∷ texts) (row_kept (words text) ∷ kept)
+one_line : (text : List ℕ) (texts : List (List ℕ)) (kept : List Kept) → Spelled (words text) → AreKept texts kept → AreKept (text ∷ texts) (words_kept (words text) ∷ kept)
 one_line text texts kept first more = record {
   lines = first.line ∷ more.lines;
   are_lines = (first.is_line, more.are_lines);
   spelled = ap (λ (ws : List (List ℕ)). ws ∷ map words texts) first.words_are ∙ ap (λ (all : List (List (List ℕ))). line_words first.line ∷ all) more.spelled;
-  entries = ap (λ (ws : List (List ℕ)). row_kept ws ∷ kept) first.words_are ∙ ap (λ (all : List Kept). line_kept first.line ∷ all) more.entries;
+  entries = ap (λ (ws : List (List ℕ)). words_kept ws ∷ kept) first.words_are ∙ ap (λ (all : List Kept). line_kept first.line ∷ all) more.entries;
 }
 
-all_lines : (texts : List (List ℕ)) → AllByRecursion (λ (text : List ℕ). fault_of (words text) ≡ None) texts → AreKept texts (map (λ (text : List ℕ). row_kept (words text)) texts)
+all_lines : (texts : List (List ℕ)) → AllByRecursion (λ (text : List ℕ). fault_of (words text) ≡ None) texts → AreKept texts (map (λ (text : List ℕ). words_kept (words text)) texts)
 all_lines [] fine = record { lines = []; are_lines = tt; spelled = refl; entries = refl }
 all_lines (text ∷ texts) fine =
-    one_line text texts (map (λ (t : List ℕ). row_kept (words t)) texts) (faultless (words text) fine.0) (all_lines texts fine.1)
+    one_line text texts (map (λ (t : List ℕ). words_kept (words t)) texts) (faultless (words text) fine.0) (all_lines texts fine.1)
 
 -- Where all texts are read, what is kept is of their lines.
 pub kept_all : (texts : List (List ℕ)) (kept : List Kept) → Ok kept ≡ continue [] texts → AreKept texts kept
@@ -41,5 +41,5 @@ pub stopped_at : (all : List (List ℕ)) (done : List Kept) (rest texts : List (
     → fault_of (words text) ≡ Some reason → place ≡ length done → IsFirstFault all place reason
 stopped_at all done rest texts text place reason kept next fault at =
     stopped all place reason
-    (ap (λ (p : ℕ). Err (p, reason)) at ∙ ap (λ (f : Option CltReason). after_fault done f (continue (done ++ row_kept (words text) ∷ []) texts)) (sym fault)
+    (ap (λ (p : ℕ). Err (p, reason)) at ∙ ap (λ (f : Option CltReason). after_fault done f (continue (done ++ words_kept (words text) ∷ []) texts)) (sym fault)
     ∙ ap (continue done) (sym next) ∙ kept)

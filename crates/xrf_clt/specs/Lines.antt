@@ -39,6 +39,11 @@ line_words line = line.applid ∷ kind_word line.kind ∷ line.operands
 abbrev pub line_kept : Line → Kept
 line_kept line = record { applid = line.applid; text = join_with_byte 32 (kind_word line.kind ∷ line.operands) }
 
+-- what is kept of some words
+abbrev pub words_kept : List (List ℕ) → Kept
+words_kept [] = record { applid = []; text = [] }
+words_kept (applid ∷ order) = record { applid = applid; text = join_with_byte 32 order }
+
 abbrev pub is_cancel : List ℕ → Bool
 is_cancel word = bytes_eq word (codes "CANCEL")
 

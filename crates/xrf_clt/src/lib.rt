@@ -1,12 +1,12 @@
 //! The command list table: what an alternate orders and says when it takes over.
 #![tactic(auto)]
 
-ghost use Rattle.std.specs.Prelude.{◌≡◌, ◌<◌, ℕ, List, ◌∷◌, length, map, slice_get, Some, None, ◌++◌, OnOk, MatchResult, IfOk, IfErr};
+ghost use Rattle.std.specs.Prelude.{◌≡◌, ◌<◌, ℕ, List, ◌∷◌, length, map, slice_get, Some, None, [], ◌++◌, OnOk, OnErr, MatchResult, IfOk, IfErr};
 ghost use Rattle.std.specs.List.{AllByRecursion, join_with_byte};
 ghost use Rattle.xrf_text.specs.Text.{lines, words};
 ghost use Rattle.xrf_clt.specs.Kept.{kept_of};
 ghost use Rattle.xrf_clt.specs.Table.{AreKept, IsError, texts_for, with_blanks};
-ghost use Rattle.xrf_clt.specs.Lines.{IsLine, Line, line_words, fault_of, has_more, is_cancel, is_kind, kind_word};
+ghost use Rattle.xrf_clt.specs.Lines.{IsLine, Line, line_words, words_kept, fault_of, has_more, is_cancel, is_kind, kind_word};
 
 use std::alloc::{AllocError, Global};
 use std::marker::Model;
@@ -143,7 +143,7 @@ fn joined(alloc: Global, line: &[u8]) -> Result<Vec<u8>, AllocError>
 }
 
 /// What is kept of a line: the applid, and the words behind it with one blank between them.
-#[derive(Drop)]
+#[derive(Clone, Drop)]
 struct Entry {
     applid: Name8,
     text: Vec<u8>,
@@ -231,6 +231,38 @@ impl Clt {
             Ok(entries) => Ok(Clt { entries }),
             Err(error) => Err(error),
         }
+    }
+
+    /// The list of no line.
+    pub fn new(alloc: Global) -> Clt
+        ensures { result ≡ [] }
+    {
+        Clt {
+            entries: Vec::new(alloc),
+        }
+    }
+
+    /// Adds a line, which is one of the command list without its word CLT.
+    pub fn add(&mut self, alloc: Global, line: &[u8]) -> Result<(), AllocError>
+        requires { fault_of (words line.now) ≡ None }
+        ensures ok { OnOk result (self.new ≡ self.old ++ words_kept (words line.now) ∷ []) }
+        ensures err { OnErr result (self.new ≡ self.old) }
+    {
+        let Ok((applid, order)) = parse(line) else {
+            unreachable!()
+        };
+        let text = joined(alloc, order)?;
+        self.entries.push(Entry { applid, text })?;
+        Ok(())
+    }
+
+    /// The same list in memory of its own.
+    pub fn copy(&self) -> Result<Clt, AllocError>
+        ensures { IfOk result (λ clt. clt ≡ self.now) }
+    {
+        Ok(Clt {
+            entries: self.entries.clone()?,
+        })
     }
 
     /// How many lines the list has.

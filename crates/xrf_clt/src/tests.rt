@@ -21,6 +21,22 @@ fn the_lines_of_an_applid_come_in_order(rt: HostRuntime) -> Result<(), Fail> {
 }
 
 #[test]
+fn lines_are_added_and_copied(rt: HostRuntime) -> Result<(), Fail> {
+    let alloc = rt.alloc();
+    let mut clt = Clt::new(alloc);
+    assert_eq!(rt; clt.count(), 0);
+    clt.add(alloc, b" CICSB  WTO  Takeover  of CICSA ")?;
+    clt.add(alloc, b"CICSB CANCEL CICSA")?;
+    let copy = clt.copy()?;
+    clt.add(alloc, b"CICSA COMMAND X")?;
+    assert_eq!(rt; clt.count(), 3);
+    assert_eq!(rt; copy.count(), 2);
+    assert_eq!(rt; copy.line(0).1, b"WTO Takeover of CICSA".as_slice());
+    assert_eq!(rt; copy.line(1).1, b"CANCEL CICSA".as_slice());
+    Ok(())
+}
+
+#[test]
 fn the_empty_text_is_the_empty_list(rt: HostRuntime) -> Result<(), Fail> {
     assert_eq!(rt; Clt::read(rt.alloc(), b"")?.count(), 0);
     Ok(())

@@ -1,6 +1,6 @@
-ghost use Rattle.std.specs.Prelude.{◌≡◌, ◌≢◌, ℕ, List, ◌+◌, ◌-◌, ◌<◌, ◌≤◌, ◌⊎◌, length, Option, Some, IfOk, slice_get};
+ghost use Rattle.std.specs.Prelude.{◌≡◌, ◌≢◌, ℕ, List, ◌+◌, ◌-◌, ◌<◌, ◌≤◌, ◌⊎◌, if◌then◌else◌, length, Option, Some, None, IfOk, slice_get};
 ghost use Rattle.xrf_base.specs.Ranges.{AreLimits};
-ghost use Rattle.xrf_file.specs.Rows.{unit_named};
+ghost use Rattle.xrf_file.specs.Rows.{unit_named, is_locked};
 ghost use Rattle.xrf_file.specs.Ledger.{Ledger, IsUnitItem, plan_of, begin_answer, put_plan, get_plan, commit_plan, roll_plan, is_bad_rrn, is_log_full, after_begin, after_end, planned, logged, ended, keyed, started, fresh, oldest, undo_rows, IsPlanned, IsPending};
 ghost use Rattle.xrf_file.specs.Steps.{AddsStep, Planned, Logged, Ended, Keyed};
 
@@ -69,7 +69,6 @@ impl Units {
     /// `next`, and those from number `start` on are still needed.
     pub fn start(&mut self, inc: Inc, next: u32, start: u32)
         requires order { start ≤ next }
-        requires few { next - start ≤ self.old.slots }
         requires most { next < 65536 }
         ensures { self.new ≡ started self.old inc next start }
     {
@@ -129,11 +128,8 @@ impl Units {
         let Some(unit) = find_unit(&self.open_units, name) else {
             return Plan::Answer(ItemAnswer::NotOpen);
         };
-        if self.is_bad(rrn) {
-            return Plan::Answer(ItemAnswer::BadRrn);
-        }
-        if locks(&self.puts, unit, rrn) {
-            return Plan::Answer(ItemAnswer::Locked);
+        if let Some(answer) = self.refused(unit, rrn) {
+            return Plan::Answer(answer);
         }
         if self.is_full(unit) {
             return Plan::Answer(ItemAnswer::LogFull);
@@ -152,12 +148,8 @@ impl Units {
         let Some(unit) = find_unit(&self.open_units, name) else {
             return Plan::Answer(ItemAnswer::NotOpen);
         };
-        if self.is_bad(rrn) {
-            return Plan::Answer(ItemAnswer::BadRrn);
-        }
-        let held = locks(&self.puts, unit, rrn);
-        if held {
-            return Plan::Answer(ItemAnswer::Locked);
+        if let Some(answer) = self.refused(unit, rrn) {
+            return Plan::Answer(answer);
         }
         Plan::Get { rrn }
     }
@@ -194,6 +186,19 @@ impl Units {
         }
         remove_unit(&mut self.open_units, unit);
         Plan::Answer(ItemAnswer::Done)
+    }
+
+    // what refuses a PUT and a GET alike
+    fn refused(&self, unit: UnitId, rrn: u16) -> Option<ItemAnswer>
+        ensures { result ≡ (if is_bad_rrn self.now rrn then Some ItemAnswer.BadRrn else if is_locked unit rrn self.now.puts then Some ItemAnswer.Locked else None) }
+    {
+        if self.is_bad(rrn) {
+            return Some(ItemAnswer::BadRrn);
+        }
+        if locks(&self.puts, unit, rrn) {
+            return Some(ItemAnswer::Locked);
+        }
+        None
     }
 
     fn is_bad(&self, rrn: u16) -> bool

@@ -5,8 +5,7 @@ use Rattle.std.specs.List.{list_all}
 use Rattle.std.specs.Str.{bytes_eq}
 use Rattle.std.specs.Cmp.Derive.{both_true}
 use Rattle.std.proofs.lemmas.Slice.Eq.{bytes_eq-Decides}
-use Rattle.std.proofs.lemmas.Bool.{leb-true, le-leb, ltb-true, ltb-false, eq-eqb, eqb-true}
-use Rattle.xrf_base.proofs.Texts.{both-left, both-right}
+use Rattle.std.proofs.lemmas.Bool.{leb-true, le-leb, ltb-true, ltb-false, eq-eqb, eqb-true, and_parts}
 use Rattle.xrf_forms.specs.declared.reason.Reason.{Reason}
 use Rattle.xrf_forms.specs.declared.reason.Reason.TheVariants.{UnknownWord, WordCount, OutOfRange, BadSite, BadName, BadValue, BadHex}
 use Rattle.xrf_forms.specs.declared.keyword.Keyword.{Keyword as Word}
@@ -239,15 +238,15 @@ apart-read form other ws of h = by (nat_lt (rival (parts_of form) (parts_of othe
         let less : agreed (parts_of other) ws < keys (parts_of form) = omega (arith, bound, ltb-true _ _ e) in
         record { fewer = omega (arith, less); not_read = fails_first (agreed (parts_of other) ws) (keys (parts_of form)) (takes (parts_of other) ws) less }
     by false e k =
-        let few = leb-true (rival (parts_of form) (parts_of other)) (keys (parts_of form)) (both-left _ _ k) in
+        let few = leb-true (rival (parts_of form) (parts_of other)) (keys (parts_of form)) (and_parts _ _ k).0 in
         record {
           fewer = omega (arith, bound, few);
           not_read = fails_second (agreed (parts_of other) ws == keys (parts_of form)) (takes (parts_of other) ws)
-              (take-bound (parts_of form) (parts_of other) ws of (negated _ (both-right _ _ k)));
+              (take-bound (parts_of form) (parts_of other) ws of (negated _ (and_parts _ _ k).1));
         }
 
 -- no words are of two of the forms, and each has a keyword
-abbrev are_apart : List Form → Bool
+abbrev pub are_apart : List Form → Bool
 are_apart [] = true
 are_apart (form ∷ forms) = (nat_lt 0 (keys (parts_of form)) && list_all (λ other. apart form other && apart other form) forms) && are_apart forms
 
@@ -259,7 +258,7 @@ all-fewer : (form : Form) (forms : List Form) (ws : List (List ℕ)) → AreOfFo
     → most_agreed forms ws ≤ keys (parts_of form)
 all-fewer form [] ws of h = omega arith
 all-fewer form (other ∷ forms) ws of h =
-    by (nat_lt (agreed (parts_of other) ws) (most_agreed forms ws)) (apart-read form other ws of (both-left _ _ (both-left _ _ h))).fewer (all-fewer form forms ws of (both-right _ _ h))
+    by (nat_lt (agreed (parts_of other) ws) (most_agreed forms ws)) (apart-read form other ws of (and_parts _ _ (and_parts _ _ h).0).0).fewer (all-fewer form forms ws of (and_parts _ _ h).1)
   where
     by : (t : Bool) → agreed (parts_of other) ws ≤ keys (parts_of form) → most_agreed forms ws ≤ keys (parts_of form)
         → (if t then most_agreed forms ws else agreed (parts_of other) ws) ≤ keys (parts_of form)
@@ -282,8 +281,8 @@ most-own a m k same few = by (nat_lt a m) refl
 
 all-at : (form other : Form) (forms : List Form) → list_all (λ o. apart form o && apart o form) forms ≡ true → IsAmong other forms → apart other form ≡ true
 all-at form other [] h among = absurd among
-all-at form other (first ∷ forms) h (inl same) = subst (λ (o : Form). apart o form ≡ true) same (both-right _ _ (both-left _ _ h))
-all-at form other (first ∷ forms) h (inr later) = all-at form other forms (both-right _ _ h) later
+all-at form other (first ∷ forms) h (inl same) = subst (λ (o : Form). apart o form ≡ true) same (and_parts _ _ (and_parts _ _ h).0).1
+all-at form other (first ∷ forms) h (inr later) = all-at form other forms (and_parts _ _ h).1 later
 
 -- the form of which some words are is chosen
 form-again : (form : Form) (forms : List Form) (ws : List (List ℕ)) → AreOfForm (parts_of form) ws → are_apart forms ≡ true → IsAmong form forms → IsChosen form forms ws
@@ -293,15 +292,15 @@ form-again form (first ∷ forms) ws of h (inl same) = subst (λ (f : Form). Are
     here : AreOfForm (parts_of first) ws → IsChosen first (first ∷ forms) ws
     here o =
         let w = whole (parts_of first) ws o in
-        let front = both-left _ _ h in (
-          most-own (agreed (parts_of first) ws) (most_agreed forms ws) (keys (parts_of first)) w.agree (all-fewer first forms ws o (both-right _ _ front)),
+        let front = (and_parts _ _ h).0 in (
+          most-own (agreed (parts_of first) ws) (most_agreed forms ws) (keys (parts_of first)) w.agree (all-fewer first forms ws o (and_parts _ _ front).1),
           ap (λ (t : Bool). if t then Some first else fitting (keys (parts_of first)) forms ws)
               (both_true (eq-eqb (agreed (parts_of first) ws) (keys (parts_of first)) w.agree) w.taken),
-          ltb-true 0 (keys (parts_of first)) (both-left _ _ front),
+          ltb-true 0 (keys (parts_of first)) (and_parts _ _ front).0,
         )
 form-again form (first ∷ forms) ws of h (inr later) =
-    let rest = form-again form forms ws of (both-right _ _ h) later in
-    let other = apart-read form first ws of (all-at first form forms (both-right _ _ (both-left _ _ h)) later) in (
+    let rest = form-again form forms ws of (and_parts _ _ h).1 later in
+    let other = apart-read form first ws of (all-at first form forms (and_parts _ _ (and_parts _ _ h).0).1 later) in (
       most-of (agreed (parts_of first) ws) (most_agreed forms ws) (keys (parts_of form)) other.fewer rest.0,
       ap (λ (t : Bool). if t then Some first else fitting (keys (parts_of form)) forms ws) other.not_read ∙ rest.1,
       rest.2,

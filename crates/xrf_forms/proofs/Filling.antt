@@ -1,9 +1,8 @@
 -- What pairs of digits fill in is the bytes that they spell.
 use Rattle.std.proofs.Common.{◌≡◌, ◌≤◌, ◌+◌, ◌-◌, ℕ, Bool, true, false, List, [], ◌∷◌, ◌++◌, length, take, drop, slice_set, slice_index, replicate, nat_le, ◌==◌, ◌%◌, ◌&&◌, refl, sym, ◌∙◌, ap, cond, arith}
 use Rattle.std.proofs.lemmas.List.{take_all, take_more_set, length-set, append-nil, append_assoc}
-use Rattle.std.proofs.lemmas.Bool.{leb-true, le-leb, lt-leb, eqb-true}
+use Rattle.std.proofs.lemmas.Bool.{leb-true, le-leb, lt-leb, eqb-true, and_parts}
 use Rattle.std.specs.List.{list_all}
-use Rattle.xrf_base.proofs.Texts.{both-left, both-right}
 use Rattle.xrf_forms.specs.Hex.{is_hex_digit, is_hex, byte_of, bytes_of_hex, torn_of_hex}
 use Rattle.xrf_forms.specs.Torn.{torn_of}
 use Rattle.xrf_forms.specs.Filling.{one_more, filled, front_of}
@@ -56,11 +55,11 @@ start = record { bytes = replicate 63 0; count = 0 }
 -- what is filled in of a text of hex is what it spells
 pub torn_law : (text : List ℕ) → is_hex text ≡ true → torn_of (front_of (filled start text)) ≡ torn_of_hex text
 torn_law text h =
-    let sized : (nat_le 1 (length text) && nat_le (length text) 126 && (length text % 2 == 0)) ≡ true = both-left (nat_le 1 (length text) && nat_le (length text) 126 && (length text % 2 == 0)) (list_all is_hex_digit text) h in
-    let between : (nat_le 1 (length text) && nat_le (length text) 126) ≡ true = both-left (nat_le 1 (length text) && nat_le (length text) 126) (length text % 2 == 0) sized in
-    let some : 1 ≤ length text = leb-true 1 (length text) (both-left (nat_le 1 (length text)) (nat_le (length text) 126) between) in
-    let few : length text ≤ 126 = leb-true (length text) 126 (both-right (nat_le 1 (length text)) (nat_le (length text) 126) between) in
-    let even : length text % 2 ≡ 0 = eqb-true (length text % 2) 0 (both-right (nat_le 1 (length text) && nat_le (length text) 126) (length text % 2 == 0) sized) in
+    let sized : (nat_le 1 (length text) && nat_le (length text) 126 && (length text % 2 == 0)) ≡ true = (and_parts (nat_le 1 (length text) && nat_le (length text) 126 && (length text % 2 == 0)) (list_all is_hex_digit text) h).0 in
+    let between : (nat_le 1 (length text) && nat_le (length text) 126) ≡ true = (and_parts (nat_le 1 (length text) && nat_le (length text) 126) (length text % 2 == 0) sized).0 in
+    let some : 1 ≤ length text = leb-true 1 (length text) (and_parts (nat_le 1 (length text)) (nat_le (length text) 126) between).0 in
+    let few : length text ≤ 126 = leb-true (length text) 126 (and_parts (nat_le 1 (length text)) (nat_le (length text) 126) between).1 in
+    let even : length text % 2 ≡ 0 = eqb-true (length text % 2) 0 (and_parts (nat_le 1 (length text) && nat_le (length text) 126) (length text % 2 == 0) sized).1 in
     let most = most-bytes text in
     let least : 1 ≤ length (bytes_of_hex text) = least-bytes text (omega arith) in
     let front : front_of (filled start text) ≡ bytes_of_hex text = filled_front start text refl (omega arith) in

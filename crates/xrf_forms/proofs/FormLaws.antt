@@ -3,8 +3,7 @@ use Rattle.std.proofs.Common.{◌≡◌, ◌⊎◌, inl, inr, ◌==◌, ◌&&◌
 use Rattle.std.specs.Option.{ok_or}
 use Rattle.std.specs.Str.{bytes_eq}
 use Rattle.std.proofs.lemmas.Slice.Eq.{bytes_eq-Decides}
-use Rattle.std.proofs.lemmas.Bool.{leb-true}
-use Rattle.xrf_base.proofs.Texts.{both-left, both-right}
+use Rattle.std.proofs.lemmas.Bool.{leb-true, and_parts}
 use Rattle.xrf_forms.specs.declared.reason.Reason.{Reason}
 use Rattle.xrf_forms.specs.declared.reason.Reason.TheVariants.{UnknownWord, WordCount, OutOfRange}
 use Rattle.xrf_forms.specs.declared.form.Part.{Part}
@@ -57,18 +56,18 @@ part-found (Refused keyword reason) word w h = absurd (cc)
 part-found Site word w h = kept _ _ h
 part-found (Number least most) word w h =
     let k = number-kept (λ n. nat_le least n && nat_le n most) (number_of word) h in
-    record { value = k.0; spelled = k.1; low = leb-true least k.0 (both-left _ _ k.2); high = leb-true k.0 most (both-right _ _ k.2); also_kept = refl }
+    record { value = k.0; spelled = k.1; low = leb-true least k.0 (and_parts _ _ k.2).0; high = leb-true k.0 most (and_parts _ _ k.2).1; also_kept = refl }
 part-found (Multiple least most unit) word w h =
     let k = number-kept (λ n. nat_le least n && nat_le n most && is_multiple_of n unit) (number_of word) h in
-    let range = both-left _ _ k.2 in
-    record { value = k.0; spelled = k.1; low = leb-true least k.0 (both-left _ _ range); high = leb-true k.0 most (both-right _ _ range); also_kept = both-right _ _ k.2 }
+    let range = (and_parts _ _ k.2).0 in
+    record { value = k.0; spelled = k.1; low = leb-true least k.0 (and_parts _ _ range).0; high = leb-true k.0 most (and_parts _ _ range).1; also_kept = (and_parts _ _ k.2).1 }
 part-found Name word w h = kept _ _ h
 part-found Value word w h = kept _ _ h
 part-found Hex word w h = kept _ _ h
 part-found Words word w h = tt
 
 -- words without a fault, as many as the form takes, are of the form
-form-found : (parts : List Part) (ws : List (List ℕ)) → takes parts ws ≡ true → first_fault parts ws ≡ None → AreOfForm parts ws
+pub form-found : (parts : List Part) (ws : List (List ℕ)) → takes parts ws ≡ true → first_fault parts ws ≡ None → AreOfForm parts ws
 form-found [] [] t h = tt
 form-found [] (word ∷ ws) t h = absurd (cc)
 form-found (part ∷ parts) [] t h = absurd (cc)
@@ -88,10 +87,10 @@ chosen most (first ∷ forms) ws form h = by (fits_best most first ws) (λ k. ch
   where
     by : (t : Bool) → (fitting most forms ws ≡ Some form → IsAmong form forms × (takes (parts_of form) ws ≡ true)) → fits_best most first ws ≡ t → (if t then Some first else fitting most forms ws) ≡ Some form
         → ((first ≡ form) ⊎ IsAmong form forms) × (takes (parts_of form) ws ≡ true)
-    by true rest e k = let same : first ≡ form = cc in (inl same, subst (λ (f : Form). takes (parts_of f) ws ≡ true) same (both-right _ _ e))
+    by true rest e k = let same : first ≡ form = cc in (inl same, subst (λ (f : Form). takes (parts_of f) ws ≡ true) same (and_parts _ _ e).1)
     by false rest e k = let r = rest k in (inr r.0, r.1)
 
-form-chosen : (forms : List Form) (ws : List (List ℕ)) (form : Form) → form_for forms ws ≡ Ok form
+pub form-chosen : (forms : List Form) (ws : List (List ℕ)) (form : Form) → form_for forms ws ≡ Ok form
     → IsAmong form forms × (takes (parts_of form) ws ≡ true)
 form-chosen forms ws form h = by (most_agreed forms ws == 0) h
   where

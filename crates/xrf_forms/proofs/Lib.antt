@@ -3,7 +3,12 @@ pub mod Filling
 pub mod FormLaws
 pub mod SayingLaws
 pub mod ApartLaws
-pub mod RoundLaws
 pub mod TornLaws
-pub mod ItemLaws
 pub mod WordLaws
+pub mod FoundLaws
+pub mod PlainLaws
+pub mod Listed
+pub mod WrittenChoices
+pub mod WrittenLines
+pub mod LineAgain
+pub mod FaultLaws

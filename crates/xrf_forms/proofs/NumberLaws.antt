@@ -1,9 +1,8 @@
 -- Numbers in texts.
 use Rattle.std.proofs.Common.{◌≡◌, ◌≤◌, ◌<◌, ◌+◌, ◌*◌, ◌^◌, ◌==◌, ◌||◌, not, ℕ, zero, suc, Bool, true, false, Some, List, length, refl, sym, ◌∙◌, ap, arith, rules, slice_index, get_or, add-one}
 use Rattle.std.proofs.lemmas.Option.{cond_some}
-use Rattle.std.proofs.lemmas.Bool.{eqb-true, eq-eqb, le-leb, leb-true}
+use Rattle.std.proofs.lemmas.Bool.{eqb-true, eq-eqb, le-leb, leb-true, and_parts}
 use Rattle.std.specs.Cmp.Derive.{both_true}
-use Rattle.xrf_base.proofs.Texts.{both-left, both-right}
 use Rattle.std.proofs.Math.Nat.{pow-le-pow_right, pow-succ'}
 use Rattle.std.specs.Int.{IsInRange}
 use Rattle.std.specs.Char.{is_ascii_digit}
@@ -30,12 +29,12 @@ pub digit-more : (number i digit : ℕ) → number < 10 ^ i → digit ≤ 9 → 
 digit-more number i digit small low = let top : 10 ^ (i + 1) ≡ 10 * 10 ^ i = ap (λ (k : ℕ). 10 ^ k) (add-one i) ∙ pow-succ' 10 i in omega arith
 
 -- the parts of the test of a number
-record IsNumber (text : List ℕ) : Type 0 where
-  some : 0 < length text
-  few : length text ≤ 5
-  digits : list_all is_ascii_digit text ≡ true
-  no_zero : slice_index text 0 ≡ 48 → length text ≡ 1
-  fits : value_behind 0 text ≤ 65535
+pub record IsNumber (text : List ℕ) : Type 0 where
+  pub some : 0 < length text
+  pub few : length text ≤ 5
+  pub digits : list_all is_ascii_digit text ≡ true
+  pub no_zero : slice_index text 0 ≡ 48 → length text ≡ 1
+  pub fits : value_behind 0 text ≤ 65535
 
 -- where one holds or not another, the other follows from it
 follows : (a b : Bool) → (not a || b) ≡ true → a ≡ true → b ≡ true
@@ -46,17 +45,17 @@ or_follows : (a b : Bool) → (a ≡ true → b ≡ true) → (not a || b) ≡ t
 or_follows true b h = h refl
 or_follows false b h = refl
 
-number-parts : (text : List ℕ) → is_number text ≡ true → IsNumber text
+pub number-parts : (text : List ℕ) → is_number text ≡ true → IsNumber text
 number-parts text h =
-    let upto_zero = both-left _ _ h in
-    let upto_digits = both-left _ _ upto_zero in
-    let upto_few = both-left _ _ upto_digits in
+    let upto_zero = (and_parts _ _ h).0 in
+    let upto_digits = (and_parts _ _ upto_zero).0 in
+    let upto_few = (and_parts _ _ upto_digits).0 in
     record {
-      some = leb-true 1 (length text) (both-left _ _ upto_few);
-      few = leb-true (length text) 5 (both-right _ _ upto_few);
-      digits = both-right _ _ upto_digits;
-      no_zero = λ zero_first. eqb-true (length text) 1 (follows (slice_index text 0 == 48) (length text == 1) (both-right _ _ upto_zero) (eq-eqb _ _ zero_first));
-      fits = leb-true (value_behind 0 text) 65535 (both-right _ _ h);
+      some = leb-true 1 (length text) (and_parts _ _ upto_few).0;
+      few = leb-true (length text) 5 (and_parts _ _ upto_few).1;
+      digits = (and_parts _ _ upto_digits).1;
+      no_zero = λ zero_first. eqb-true (length text) 1 (follows (slice_index text 0 == 48) (length text == 1) (and_parts _ _ upto_zero).1 (eq-eqb _ _ zero_first));
+      fits = leb-true (value_behind 0 text) 65535 (and_parts _ _ h).1;
     }
 
 number-whole : (text : List ℕ) → IsNumber text → is_number text ≡ true

@@ -31,20 +31,20 @@ use Rattle.xrf_forms.specs.Saying.{torn_said, choice_said, counted, once_said, i
 use Rattle.xrf_forms.specs.Table.{parts_of, choice_parts, planned_parts, work_parts, behind_plan}
 
 -- what is said of the first word, the parts behind the first, and whether the first takes all
-abbrev IsOfFirst : List Part → List ℕ → Type 0
+abbrev pub IsOfFirst : List Part → List ℕ → Type 0
 IsOfFirst [] word = ⊥
 IsOfFirst (part ∷ parts) word = IsOfPart part word
 
-abbrev tail_of : List Part → List Part
+abbrev pub tail_of : List Part → List Part
 tail_of [] = []
 tail_of (part ∷ parts) = parts
 
-abbrev is_free : List Part → Bool
+abbrev pub is_free : List Part → Bool
 is_free [] = true
 is_free (part ∷ parts) = takes_all part parts
 
 -- the first word is of the first part, and those behind it are of the others
-step : (parts : List Part) (ws : List (List ℕ)) → is_free parts ≡ false → AreOfForm parts ws → IsOfFirst parts (first ws) × AreOfForm (tail_of parts) (behind ws)
+pub step : (parts : List Part) (ws : List (List ℕ)) → is_free parts ≡ false → AreOfForm parts ws → IsOfFirst parts (first ws) × AreOfForm (tail_of parts) (behind ws)
 step [] ws e of = absurd (cc)
 step (part ∷ parts) [] e of = absurd of
 step (part ∷ parts) (word ∷ ws) e of = subst (λ (t : Bool). Unless t (IsOfPart part word × AreOfForm parts ws)) e of

@@ -7,8 +7,11 @@ pub mod Hex
 pub mod Filling
 pub mod Operands
 pub mod Fitting
+pub mod Faults
 pub mod Saying
 pub mod Reading
 pub mod Grammar
 pub mod Spelling
 pub mod Torn
+pub mod LineText
+pub mod Plain

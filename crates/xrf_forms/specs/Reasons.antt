@@ -1,23 +1,34 @@
 -- The order of the reasons.
 use Rattle.std.specs.Prelude.{ℕ, nat_lt, Option, Some, None, if◌then◌else◌}
 use Rattle.xrf_forms.specs.declared.reason.Reason.{Reason}
-use Rattle.xrf_forms.specs.declared.reason.Reason.TheVariants.{NoHeader, BadFormat, UnknownWord, WordCount, BadSite, BadNumber, OutOfRange, BadName, BadValue, BadHex, BadOption, BadItem, BadCebt, BadPlan}
+use Rattle.xrf_forms.specs.declared.reason.Reason.TheVariants.{TooLarge, BadByte, LongLine, NoHeader, BadFormat, ChoicesGiven, AfterEnd, UnknownWord, WordCount, BadSite, BadNumber, OutOfRange, BadName, BadValue, BadHex, BadOption, BadItem, BadCebt, BadPlan, PlanOrder, Twice, TooMany, RrnRange, NoEnd, NotBuilt}
 
 abbrev pub rank : Reason → ℕ
-rank NoHeader = 0
-rank BadFormat = 1
-rank UnknownWord = 2
-rank WordCount = 3
-rank BadSite = 4
-rank BadNumber = 5
-rank OutOfRange = 6
-rank BadName = 7
-rank BadValue = 8
-rank BadHex = 9
-rank BadOption = 10
-rank BadItem = 11
-rank BadCebt = 12
-rank BadPlan = 13
+rank TooLarge = 0
+rank BadByte = 1
+rank LongLine = 2
+rank NoHeader = 3
+rank BadFormat = 4
+rank ChoicesGiven = 5
+rank AfterEnd = 6
+rank UnknownWord = 7
+rank WordCount = 8
+rank BadSite = 9
+rank BadNumber = 10
+rank OutOfRange = 11
+rank BadName = 12
+rank BadValue = 13
+rank BadHex = 14
+rank BadOption = 15
+rank BadItem = 16
+rank BadCebt = 17
+rank BadPlan = 18
+rank PlanOrder = 19
+rank Twice = 20
+rank TooMany = 21
+rank RrnRange = 22
+rank NoEnd = 23
+rank NotBuilt = 24
 
 -- of two reasons that may be there, the one that comes first in the order
 abbrev pub earlier : Option Reason → Option Reason → Option Reason

@@ -106,7 +106,7 @@ fn first_fitting(most: usize, forms: &[Form], line: &[u8]) -> Option<Form>
 }
 
 /// The form by which a line is read, or why there is none.
-pub fn choose_form(forms: &[Form], line: &[u8]) -> Result<Form, Reason>
+pub(crate) fn choose_form(forms: &[Form], line: &[u8]) -> Result<Form, Reason>
     ensures { result ≡ form_for forms.now (words line.now) }
 {
     let most = most_agreement(forms, line);
@@ -120,7 +120,7 @@ pub fn choose_form(forms: &[Form], line: &[u8]) -> Result<Form, Reason>
 }
 
 /// The first reason in the order for which a line is not of a form.
-pub fn find_fault(parts: &[Part], line: &[u8]) -> Option<Reason>
+pub(crate) fn find_fault(parts: &[Part], line: &[u8]) -> Option<Reason>
     ensures { result ≡ first_fault parts.now (words line.now) }
 {
     let [part, later @ ..] = parts else {

@@ -7,7 +7,7 @@ ghost use Rattle.xrf_forms.specs.Filling.{one_more, filled, front_of};
 
 /// The bytes that pairs of digits spelled so far.
 #[derive(Clone, Copy)]
-pub struct Filling {
+pub(crate) struct Filling {
     bytes: [u8; 63],
     count: u8,
 }
@@ -25,7 +25,7 @@ fn all_digits(text: &[u8]) -> bool
 }
 
 /// Whether a text is hex of 1 to 63 bytes.
-pub fn spells_hex(text: &[u8]) -> bool
+pub(crate) fn spells_hex(text: &[u8]) -> bool
     ensures { result ≡ is_hex text.now }
 {
     if text.is_empty() {
@@ -91,7 +91,7 @@ fn fill(filling: Filling, text: &[u8]) -> Filling
 }
 
 /// The bytes that a text of hex digits spells, up to 63 of them.
-pub fn fill_all(text: &[u8]) -> Filling
+pub(crate) fn fill_all(text: &[u8]) -> Filling
     requires { list_all is_hex_digit text.now ≡ true }
     ensures { result ≡ filled (record { bytes = replicate 63 0; count = 0 }) text.now }
 {
@@ -106,7 +106,7 @@ pub fn fill_all(text: &[u8]) -> Filling
 
 impl Filling {
     /// The bytes so far.
-    pub fn front(&self) -> &[u8]
+    pub(crate) fn front(&self) -> &[u8]
         ensures { result.now ≡ front_of self.now }
     {
         if self.count >= 63 {

@@ -7,6 +7,7 @@ pub mod form;
 mod hex;
 pub mod keyword;
 pub mod line;
+pub mod line_writing;
 mod number;
 mod operand;
 pub mod reading;
@@ -21,10 +22,11 @@ pub use choice::{Choice, Landing};
 pub use form::{Form, Format};
 pub use keyword::Keyword;
 pub use line::Line;
+pub use line_writing::{lines_are_plain, lines_read_again, put_header, put_line};
 pub use reading::{read_choice, read_header, read_setting};
 pub use reason::Reason;
 pub use torn::TornBytes;
-pub use writing::{choices_read_again, items_read_again, put_choice, put_item};
+pub use writing::{put_choice, put_item};
 
 #[cfg(test)]
 mod tests;

@@ -26,7 +26,7 @@ fn value(digits: &[u8]) -> u32
 
 /// The number that a text spells: decimal digits without a leading zero, except 0 itself, and at
 /// most 65535. None where it spells none.
-pub fn read_number(text: &[u8]) -> Option<u16>
+pub(crate) fn read_number(text: &[u8]) -> Option<u16>
     ensures { result ≡ number_of text.now }
 {
     if text.is_empty() {

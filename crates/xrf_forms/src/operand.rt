@@ -12,7 +12,7 @@ use xrf_base::names::spells_name;
 use xrf_base::values::spells_value;
 
 /// The site that a word names.
-pub fn read_site(word: &[u8]) -> Option<Site>
+pub(crate) fn read_site(word: &[u8]) -> Option<Site>
     ensures { result ≡ site_of word.now }
 {
     if word == b"A".as_slice() {
@@ -25,7 +25,7 @@ pub fn read_site(word: &[u8]) -> Option<Site>
 }
 
 /// The class that a word spells.
-pub fn read_class(word: &[u8]) -> Option<u8>
+pub(crate) fn read_class(word: &[u8]) -> Option<u8>
     ensures { result ≡ class_of word.now }
 {
     match read_number(word) {
@@ -73,7 +73,7 @@ fn is_multiple(number: u16, unit: u16) -> bool
 }
 
 /// What is wrong with a word in the place of a part that is no keyword.
-pub fn fault_of_operand(part: Part, word: &[u8]) -> Option<Reason>
+pub(crate) fn fault_of_operand(part: Part, word: &[u8]) -> Option<Reason>
     ensures { result ≡ operand_fault part word.now }
 {
     match part {

@@ -3,13 +3,23 @@
 ghost use Rattle.std.specs.Prelude.{◌≡◌};
 ghost use Rattle.xrf_forms.specs.Reasons.{rank, earlier};
 
-/// Why a line is refused, in the order in which the reasons of one line are told.
+/// Why a text is refused, in the order in which the reasons of one line are told.
 #[derive(Clone, Copy, Debug, PartialEq, Eq)]
 pub enum Reason {
+    /// More than 4,194,304 bytes.
+    TooLarge,
+    /// A byte outside blank to `~`.
+    BadByte,
+    /// More than 300 bytes.
+    LongLine,
     /// The first line does not begin with the word XRF.
     NoHeader,
     /// That line is neither `XRF 1` nor `XRF 2`.
     BadFormat,
+    /// A choice line where there may be none.
+    ChoicesGiven,
+    /// A line behind END that may not come.
+    AfterEnd,
     /// A first word that this part of the text does not have.
     UnknownWord,
     /// Words are missing or too many.
@@ -30,6 +40,18 @@ pub enum Reason {
     BadCebt,
     /// A choice that PLAN does not take.
     BadPlan,
+    /// A tick below that of the PLAN line before.
+    PlanOrder,
+    /// A setting or a record number that was given before.
+    Twice,
+    /// More work items, PLAN lines, CLT lines or choices than there may be.
+    TooMany,
+    /// A record number above FILE, at the line CHOICES.
+    RrnRange,
+    /// The text ends without END.
+    NoEnd,
+    /// A line that the program does not run yet.
+    NotBuilt,
 }
 
 impl Reason {
@@ -38,20 +60,31 @@ impl Reason {
         ensures { result ≡ rank self }
     {
         match self {
-            Reason::NoHeader => 0,
-            Reason::BadFormat => 1,
-            Reason::UnknownWord => 2,
-            Reason::WordCount => 3,
-            Reason::BadSite => 4,
-            Reason::BadNumber => 5,
-            Reason::OutOfRange => 6,
-            Reason::BadName => 7,
-            Reason::BadValue => 8,
-            Reason::BadHex => 9,
-            Reason::BadOption => 10,
-            Reason::BadItem => 11,
-            Reason::BadCebt => 12,
-            Reason::BadPlan => 13,
+            Reason::TooLarge => 0,
+            Reason::BadByte => 1,
+            Reason::LongLine => 2,
+            Reason::NoHeader => 3,
+            Reason::BadFormat => 4,
+            Reason::ChoicesGiven => 5,
+            Reason::AfterEnd => 6,
+            Reason::UnknownWord => 7,
+            Reason::WordCount => 8,
+            Reason::BadSite => 9,
+            Reason::BadNumber => 10,
+            Reason::OutOfRange => 11,
+            Reason::BadName => 12,
+            Reason::BadValue => 13,
+            Reason::BadHex => 14,
+            Reason::BadOption => 15,
+            Reason::BadItem => 16,
+            Reason::BadCebt => 17,
+            Reason::BadPlan => 18,
+            Reason::PlanOrder => 19,
+            Reason::Twice => 20,
+            Reason::TooMany => 21,
+            Reason::RrnRange => 22,
+            Reason::NoEnd => 23,
+            Reason::NotBuilt => 24,
         }
     }
 }

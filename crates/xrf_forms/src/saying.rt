@@ -133,7 +133,7 @@ fn say_record(line: &[u8]) -> Option<Line>
 }
 
 /// What a line of a form says.
-pub fn say(form: Form, line: &[u8]) -> Option<Line>
+pub(crate) fn say(form: Form, line: &[u8]) -> Option<Line>
     ensures { result ≡ said form (words line.now) }
 {
     match form {

@@ -472,7 +472,7 @@ fn work_parts(form: ItemForm) -> &'static [Part]
 
 impl Form {
     /// Its parts.
-    pub fn parts(self) -> &'static [Part]
+    pub(crate) fn parts(self) -> &'static [Part]
         ensures { result.now ≡ parts_of self }
     {
         match self {
@@ -734,7 +734,7 @@ const CHOICES: [Form; 30] = [
 ];
 
 /// The forms of the lines between the header and the line CHOICES, with that line.
-pub fn settings(format: Format) -> &'static [Form]
+pub(crate) fn settings(format: Format) -> &'static [Form]
     ensures { result.now ≡ settings_of format }
 {
     match format {
@@ -744,7 +744,7 @@ pub fn settings(format: Format) -> &'static [Form]
 }
 
 /// The forms of the lines behind the line CHOICES.
-pub fn choices() -> &'static [Form]
+pub(crate) fn choices() -> &'static [Form]
     ensures { result.now ≡ choices_table }
 {
     &CHOICES

@@ -416,6 +416,75 @@ fn items_are_written_as_they_are_read(rt: HostRuntime) -> Result<(), Fail> {
 }
 
 #[test]
+fn settings_are_written_as_they_are_read(rt: HostRuntime) -> Result<(), Fail> {
+    let table: [&[u8]; 24] = [
+        b"APPLID B CICSAPPL",
+        b"TAKEOVR AUTO",
+        b"TAKEOVR MANUAL",
+        b"TAKEOVR COMMAND",
+        b"ADI 5",
+        b"PDI 3600",
+        b"LOG 1024",
+        b"RING 2",
+        b"FILE 256",
+        b"PACE 10",
+        b"TICKS 0",
+        b"IMAGES ON",
+        b"IMAGES OFF",
+        b"LEVEL A 1",
+        b"LEVEL B 2",
+        b"XRFSOFF FORCE",
+        b"XRFSOFF NOFORCE",
+        b"RECORD 256 ~lower!",
+        b"WORK A PUT U1 65535 lower",
+        b"WORK B CEMT SHUTDOWN TAKEOVER",
+        b"PLAN 200 STOP A TORN c1ff",
+        b"PLAN 0 CONFIRM 7",
+        b"PLAN 5 CEBT B SET SURVEILLANCE OFF",
+        b"CHOICES",
+    ];
+    for text in table {
+        let Ok(line) = read_setting(Format::Two, text) else {
+            panic!(rt; "no setting");
+        };
+        let mut out = Vec::new(rt.alloc());
+        put_line(rt.alloc(), &mut out, &line)?;
+        assert_eq!(rt; out.as_slice(), text);
+    }
+    Ok(())
+}
+
+#[test]
+fn lines_of_choices_are_written_with_one_blank_between_words(rt: HostRuntime) -> Result<(), Fail> {
+    let table: [(&[u8], &[u8]); 5] = [
+        (b"  TICK   9999 ", b"TICK 9999"),
+        (b"STEP  A", b"STEP A"),
+        (b"STEP B 1 ", b"STEP B 1"),
+        (b"STOP A TORN C1fF", b"STOP A TORN c1ff"),
+        (b" END", b"END"),
+    ];
+    for (text, want) in table {
+        let Ok(line) = read_choice(text) else {
+            panic!(rt; "no line");
+        };
+        let mut out = Vec::new(rt.alloc());
+        put_line(rt.alloc(), &mut out, &line)?;
+        assert_eq!(rt; out.as_slice(), want);
+    }
+    Ok(())
+}
+
+#[test]
+fn headers_are_written_as_they_are_read(rt: HostRuntime) -> Result<(), Fail> {
+    for format in [Format::One, Format::Two] {
+        let mut out = Vec::new(rt.alloc());
+        put_header(rt.alloc(), &mut out, format)?;
+        assert_eq!(rt; read_header(out.as_slice()), Ok(format));
+    }
+    Ok(())
+}
+
+#[test]
 fn torn_bytes_are_1_to_63(rt: HostRuntime) -> Result<(), Fail> {
     let torn = TornBytes::new(b"\x00\xc1 ").ok_or("none")?;
     assert!(rt; torn.bytes() == b"\x00\xc1 ".as_slice());

@@ -7,6 +7,7 @@ ghost use Rattle.xrf_forms.specs.Hex.{torn_of_hex};
 
 use crate::hex::{fill_all, spells_hex};
 use std::marker::Model;
+use xrf_base::padded_array;
 
 /// Torn bytes, 1 to 63 of them. Contracts see the bytes.
 #[derive(Clone, Copy)]
@@ -26,16 +27,6 @@ impl Model for TornBytes {
     ghost inverse = { λ text. record { bytes = padded 63 text; count = length text } };
 
     ghost inverse_ok = { λ n fits. made_again (λ bytes count. record { bytes = bytes; count = count }) 63 n.bytes n.count fits.0 fits.1 };
-}
-
-// the text and blanks up to the array's length
-fn padded_array<const N: usize>(text: &[u8]) -> [u8; N]
-    requires { length text.now ≤ N }
-    ensures { result ≡ padded N text.now }
-{
-    let mut bytes = [b' '; N];
-    bytes[..text.len()].copy_from_slice(text);
-    bytes
 }
 
 impl TornBytes {

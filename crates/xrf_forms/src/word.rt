@@ -7,7 +7,7 @@ ghost use Rattle.xrf_forms.specs.Places.{first, behind, second, third, fourth, f
 use xrf_text::split_word;
 
 /// The first word, or the empty text where there is none.
-pub fn first_word(line: &[u8]) -> &[u8]
+pub(crate) fn first_word(line: &[u8]) -> &[u8]
     ensures { result.now ≡ first (words line.now) }
 {
     match split_word(line) {
@@ -17,7 +17,7 @@ pub fn first_word(line: &[u8]) -> &[u8]
 }
 
 /// What stands behind the first word.
-pub fn behind_first(line: &[u8]) -> &[u8]
+pub(crate) fn behind_first(line: &[u8]) -> &[u8]
     ensures { words result.now ≡ behind (words line.now) }
 {
     match split_word(line) {
@@ -27,31 +27,31 @@ pub fn behind_first(line: &[u8]) -> &[u8]
 }
 
 /// The second word, and so on.
-pub fn second_word(line: &[u8]) -> &[u8]
+pub(crate) fn second_word(line: &[u8]) -> &[u8]
     ensures { result.now ≡ second (words line.now) }
 {
     first_word(behind_first(line))
 }
 
-pub fn third_word(line: &[u8]) -> &[u8]
+pub(crate) fn third_word(line: &[u8]) -> &[u8]
     ensures { result.now ≡ third (words line.now) }
 {
     second_word(behind_first(line))
 }
 
-pub fn fourth_word(line: &[u8]) -> &[u8]
+pub(crate) fn fourth_word(line: &[u8]) -> &[u8]
     ensures { result.now ≡ fourth (words line.now) }
 {
     third_word(behind_first(line))
 }
 
-pub fn fifth_word(line: &[u8]) -> &[u8]
+pub(crate) fn fifth_word(line: &[u8]) -> &[u8]
     ensures { result.now ≡ fifth (words line.now) }
 {
     fourth_word(behind_first(line))
 }
 
-pub fn sixth_word(line: &[u8]) -> &[u8]
+pub(crate) fn sixth_word(line: &[u8]) -> &[u8]
     ensures { result.now ≡ sixth (words line.now) }
 {
     fifth_word(behind_first(line))

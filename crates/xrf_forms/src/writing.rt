@@ -1,15 +1,9 @@
 //! How a choice and a work item are written: one spelling of each.
 
-ghost use Rattle.std.specs.Prelude.{◌≡◌, ◌<◌, ◌++◌, OnOk, Ok, codes};
+ghost use Rattle.std.specs.Prelude.{◌≡◌, ◌<◌, ◌++◌, OnOk, codes};
 ghost use Rattle.std.specs.Fmt.{decimal};
 ghost use Rattle.xrf_cebt.specs.Command.{command_text};
-ghost use Rattle.xrf_forms.specs.Spelling.{hex_digit, hex_text, piece_text, pieces_text, site_text, site_word, answer_word, landed_text, go_text, choice_text, item_text, work_text, HasLine, HasItem};
-ghost use Rattle.xrf_forms.specs.Reading.{line_of};
-ghost use Rattle.xrf_forms.specs.Table.{choices_table, settings_of};
-ghost use Rattle.xrf_forms.specs.declared.line.Line.TheVariants.{Once, Work};
-ghost use Rattle.xrf_text.specs.Text.{words};
-ghost use Rattle.xrf_forms.specs.declared.form.Format.TheVariants.{Two};
-ghost use Rattle.xrf_base.specs.declared.site.Site.{Site};
+ghost use Rattle.xrf_forms.specs.Spelling.{hex_digit, hex_text, piece_text, pieces_text, site_text, site_word, answer_word, landed_text, go_text, choice_text, item_text};
 
 use crate::choice::{Choice, Landing};
 use Piece::{Hex, Number, Text};
@@ -29,7 +23,7 @@ pub enum Piece<'a> {
     Hex(&'a [u8]),
 }
 
-fn put_text(out: &mut Vec<u8>, text: &[u8]) -> Result<(), AllocError>
+pub(crate) fn put_text(out: &mut Vec<u8>, text: &[u8]) -> Result<(), AllocError>
     ensures { OnOk result (out.new.items ≡ out.old.items ++ text.now) }
 {
     out.extend_from_slice(text)?;
@@ -105,7 +99,7 @@ fn answer_word(answer: ExitAnswer) -> &'static [u8]
 }
 
 // a word, a site and what stands behind it
-fn put_of_site<'a>(
+pub(crate) fn put_of_site<'a>(
     alloc: Global,
     out: &mut Vec<u8>,
     word: &'a [u8],
@@ -200,7 +194,7 @@ pub fn put_choice(alloc: Global, out: &mut Vec<u8>, choice: &Choice) -> Result<(
     }
 }
 
-fn put_named<'a>(
+pub(crate) fn put_named<'a>(
     alloc: Global,
     out: &mut Vec<u8>,
     word: &'a [u8],
@@ -253,14 +247,3 @@ pub fn put_item(alloc: Global, out: &mut Vec<u8>, item: &Item) -> Result<(), All
         Item::Signoff(terminal) => put_named(alloc, out, b"SIGNOFF ", terminal.text()),
     }
 }
-
-/// What is written of a choice is read again as that choice, once.
-#[tactic(auto, using(crate::proofs::RoundLaws::choice_again))]
-pub fn choices_read_again()
-    ensures { (choice : Choice) → HasLine choice → line_of choices_table (words (choice_text choice)) ≡ Ok (Once choice) }
-{}
-
-/// What is written of a work item, behind WORK and a site, is read again as that item.
-pub fn items_read_again()
-    ensures { (site : Site) (i : Item) → HasItem i → line_of (settings_of Two) (words (work_text site i)) ≡ Ok (Work site i) }
-{}

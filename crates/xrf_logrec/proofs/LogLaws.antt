@@ -2,14 +2,13 @@
 use Rattle.std.proofs.Common.{◌≡◌, ℕ, ◌^◌, ◌<◌, ◌==◌, true, List, ◌++◌, drop, replicate, Some, refl, ◌∙◌, ap}
 use Rattle.std.specs.Option.{option_and_then}
 use Rattle.std.specs.Cmp.Lexicographic.{nat_list_eq_equiv}
-use Rattle.std.proofs.lemmas.Bool.{le-leb, eqb-true}
+use Rattle.std.proofs.lemmas.Bool.{le-leb, eqb-true, and_parts}
 use Rattle.std.proofs.lemmas.List.{take_at}
 use Rattle.byteorder.specs.Endian.{big_number, big_bytes}
 use Rattle.byteorder.specs.Numbers.{big_number-reads_back}
 use Rattle.xrf_base.specs.declared.items.UnitId.{UnitId}
 use Rattle.xrf_logrec.specs.declared.records.LogRec.{LogRec}
 use Rattle.xrf_logrec.specs.declared.records.LogRec.TheVariants.{Put, Commit, Backout}
-use Rattle.xrf_logrec.proofs.Lists.{both-left, both-right}
 use Rattle.xrf_logrec.specs.LogRecords.{same_unit, IsUnit, IsLogRecord, LogIs, head_of, spelling, is_unit_id, is_log_record, unit_in, before_image, fields_of, if_spelled, log_reading}
 
 -- two units with one incarnation and one serial are one
@@ -22,8 +21,8 @@ unit-ext a b g h =
 pub same_unit-true : (a b : UnitId) → same_unit a b ≡ true → a ≡ b
 same_unit-true a b h =
     unit-ext a b
-    (eqb-true a.inc b.inc (both-left (a.inc == b.inc) (a.serial == b.serial) h))
-    (eqb-true a.serial b.serial (both-right (a.inc == b.inc) (a.serial == b.serial) h))
+    (eqb-true a.inc b.inc (and_parts (a.inc == b.inc) (a.serial == b.serial) h).0)
+    (eqb-true a.serial b.serial (and_parts (a.inc == b.inc) (a.serial == b.serial) h).1)
 
 -- the place and the unit are read behind a head, whatever follows it
 place-head : (kind place : ℕ) (unit : UnitId) (rest : List ℕ) → place < 2 ^ 32 → big_number 4 (drop 1 (head_of kind place unit ++ rest)) ≡ place

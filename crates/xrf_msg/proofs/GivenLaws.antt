@@ -1,8 +1,8 @@
 -- What a slot gives, as a relation and as a function.
 use Rattle.std.proofs.Common.{◌≡◌, ℕ, ◌==◌, ◌&&◌, Bool, true, false, cond, List, drop, slice_index, Option, Some, None, IfSome, refl, sym, ◌∙◌, ap, subst, eqb-true, eq-eqb}
 use Rattle.std.specs.Option.{option_and_then}
+use Rattle.std.proofs.lemmas.Bool.{and_parts}
 use Rattle.xrf_base.specs.Numbers.{AreBytes}
-use Rattle.xrf_base.proofs.Texts.{both-left, both-right}
 use Rattle.xrf_msg.specs.declared.messages.Message.{Message}
 use Rattle.xrf_msg.specs.Messages.{MsgIs, epoch_of, number_of, message_reading}
 use Rattle.xrf_msg.specs.Numbers.{Gives, given, if_expected}
@@ -20,8 +20,8 @@ by_expected slot epoch number found message true as_expected is open_gate e =
     subst (Gives slot epoch number) one (record {
       is_open = open_gate;
       spelled = is;
-      epoch_is = eqb-true (epoch_of found) epoch (both-left (epoch_of found == epoch) (number_of found == number) as_expected);
-      number_is = eqb-true (number_of found) number (both-right (epoch_of found == epoch) (number_of found == number) as_expected);
+      epoch_is = eqb-true (epoch_of found) epoch (and_parts (epoch_of found == epoch) (number_of found == number) as_expected).0;
+      number_is = eqb-true (number_of found) number (and_parts (epoch_of found == epoch) (number_of found == number) as_expected).1;
     })
 by_expected slot epoch number found message false as_expected is open_gate e = cc
 

@@ -2,7 +2,7 @@
 use Rattle.std.proofs.Common.{◌≡◌, ℕ, ◌+◌, ◌==◌, Bool, true, false, cond, ◌&&◌, nat_eq, nat_le, List, ◌++◌, take, drop, replicate, slice_index, Option, Some, None, refl, sym, ◌∙◌, ap, subst, arith, append_assoc}
 use Rattle.std.specs.Option.{option_map, option_and_then}
 use Rattle.std.specs.Cmp.Lexicographic.{pointwise, nat_list_eq_equiv}
-use Rattle.std.proofs.lemmas.Bool.{le-leb, leb-true}
+use Rattle.std.proofs.lemmas.Bool.{le-leb, leb-true, and_parts}
 use Rattle.std.proofs.lemmas.List.{get_or-drop}
 use Rattle.std.proofs.lemmas.Slice.Eq.{bytes_eq-Decides}
 use Rattle.byteorder.specs.Endian.{big_number, big_bytes}
@@ -10,11 +10,11 @@ use Rattle.byteorder.specs.Numbers.{big_number-reads_back, big_from-lt}
 use Rattle.xrf_base.specs.Numbers.{AreBytes}
 use Rattle.xrf_base.specs.Names.{IsName, padded_name}
 use Rattle.xrf_base.specs.Padding.{padded}
-use Rattle.xrf_base.proofs.Texts.{both-left, both-right}
+use Rattle.xrf_base.proofs.NameLaws.{padded_name-padded, padded_name-IsName}
 use Rattle.xrf_msg.specs.declared.messages.Message.{Message}
 use Rattle.xrf_msg.specs.declared.messages.Message.TheVariants.{Begin, Term, End, User}
 use Rattle.xrf_msg.specs.Messages.{IsNumber, IsTracked, FitsState, HasRanges, IsUser, HasNames, head_of, state_byte, terminal_of, user_of, spelling, MsgIs, is_number, is_tracked, fits_state, has_ranges, epoch_in, number_in, on_in, term_in, user_in, term_fields, user_fields, fields_of, if_spelled, message_reading}
-use Rattle.xrf_msg.proofs.Fields.{padded_name-padded, take-terminal, class-terminal, state-terminal, drop-terminal, behind-terminal, name-first, take-user, padded_name-IsName}
+use Rattle.xrf_msg.proofs.Fields.{take-terminal, class-terminal, state-terminal, drop-terminal, behind-terminal, name-first, take-user}
 
 -- the epoch and the number are read behind a head, whatever follows it
 epoch-head : (kind epoch seq : ℕ) (rest : List ℕ) → IsNumber epoch → epoch_in (head_of kind epoch seq ++ rest) ≡ epoch
@@ -169,7 +169,7 @@ number-from body place n bytes is passes =
 
 tracked-from : (class : ℕ) → is_tracked class ≡ true → IsTracked class
 tracked-from class passes =
-    record { least = leb-true 1 class (both-left (nat_le 1 class) (nat_le class 2) passes); most = leb-true class 2 (both-right (nat_le 1 class) (nat_le class 2) passes) }
+    record { least = leb-true 1 class (and_parts (nat_le 1 class) (nat_le class 2) passes).0; most = leb-true class 2 (and_parts (nat_le 1 class) (nat_le class 2) passes).1 }
 
 state-from : (on : Bool) (user : Option (List ℕ)) → fits_state on user ≡ true → FitsState on user
 state-from true user passes = tt
@@ -180,29 +180,29 @@ state-from false (Some user) passes = cc
 ranges-from : (body : List ℕ) (message : Message) → AreBytes body → Fits body message → has_ranges message ≡ true → HasRanges message × HasNames message
 ranges-from body (Begin epoch) bytes fits passes = (number-from body 1 epoch bytes fits passes, tt)
 ranges-from body (Term epoch seq term class on) bytes fits passes =
-    let numbers = both-left (is_number epoch && is_number seq) (is_tracked class) passes in (
+    let numbers = (and_parts (is_number epoch && is_number seq) (is_tracked class) passes).0 in (
       (
-        number-from body 1 epoch bytes fits.0 (both-left (is_number epoch) (is_number seq) numbers),
-        number-from body 5 seq bytes fits.1 (both-right (is_number epoch) (is_number seq) numbers),
-        tracked-from class (both-right (is_number epoch && is_number seq) (is_tracked class) passes),
+        number-from body 1 epoch bytes fits.0 (and_parts (is_number epoch) (is_number seq) numbers).0,
+        number-from body 5 seq bytes fits.1 (and_parts (is_number epoch) (is_number seq) numbers).1,
+        tracked-from class (and_parts (is_number epoch && is_number seq) (is_tracked class) passes).1,
       ),
       fits.2,
     )
 ranges-from body (End epoch seq) bytes fits passes = (
   (
-    number-from body 1 epoch bytes fits.0 (both-left (is_number epoch) (is_number seq) passes),
-    number-from body 5 seq bytes fits.1 (both-right (is_number epoch) (is_number seq) passes),
+    number-from body 1 epoch bytes fits.0 (and_parts (is_number epoch) (is_number seq) passes).0,
+    number-from body 5 seq bytes fits.1 (and_parts (is_number epoch) (is_number seq) passes).1,
   ),
   tt,
 )
 ranges-from body (User epoch seq term class on user) bytes fits passes =
-    let front = both-left (is_number epoch && is_number seq && is_tracked class) (fits_state on user) passes in
-    let numbers = both-left (is_number epoch && is_number seq) (is_tracked class) front in (
+    let front = (and_parts (is_number epoch && is_number seq && is_tracked class) (fits_state on user) passes).0 in
+    let numbers = (and_parts (is_number epoch && is_number seq) (is_tracked class) front).0 in (
       (
-        number-from body 1 epoch bytes fits.0 (both-left (is_number epoch) (is_number seq) numbers),
-        number-from body 5 seq bytes fits.1 (both-right (is_number epoch) (is_number seq) numbers),
-        tracked-from class (both-right (is_number epoch && is_number seq) (is_tracked class) front),
-        state-from on user (both-right (is_number epoch && is_number seq && is_tracked class) (fits_state on user) passes),
+        number-from body 1 epoch bytes fits.0 (and_parts (is_number epoch) (is_number seq) numbers).0,
+        number-from body 5 seq bytes fits.1 (and_parts (is_number epoch) (is_number seq) numbers).1,
+        tracked-from class (and_parts (is_number epoch && is_number seq) (is_tracked class) front).1,
+        state-from on user (and_parts (is_number epoch && is_number seq && is_tracked class) (fits_state on user) passes).1,
       ),
       (fits.2, fits.3),
     )

@@ -1,10 +1,9 @@
 -- How acts and what they hold are printed.
-use Rattle.std.specs.Prelude.{ℕ, List, ◌∷◌, ◌++◌, codes, Option, Some, None}
+use Rattle.std.specs.Prelude.{ℕ, List, ◌++◌, codes, Option, Some, None}
 use Rattle.std.specs.Fmt.{decimal}
-use Rattle.xrf_base.specs.declared.site.Site.{Site}
-use Rattle.xrf_base.specs.declared.site.Site.TheVariants.{A as SiteA, B as SiteB}
 use Rattle.xrf_base.specs.declared.items.UnitId.{UnitId}
-use Rattle.xrf_scenario.specs.Spelling.{blank}
+use Rattle.xrf_forms.specs.Spelling.{site_word}
+use Rattle.xrf_report.specs.Words.{blank, dot}
 use Rattle.xrf_world.specs.declared.act.Act.{Act}
 use Rattle.xrf_world.specs.declared.act.Act.TheVariants.{StartActive, Reserve, CtlRead, CtlWrite, Release, Signal1, Signal2, Look1, Look2, Decide, LogRead, LogBody, LogOpen, FileRead, FileWrite, Item, Restarted}
 use Rattle.xrf_world.specs.declared.act.Control.{Control}
@@ -20,14 +19,6 @@ use Rattle.xrf_world.specs.declared.entry.Who.{Who}
 use Rattle.xrf_world.specs.declared.entry.Who.TheVariants.{A, B, Env}
 use Rattle.xrf_world.specs.declared.entry.Entry.{Entry}
 
--- a full stop (byte 46), and a text
-abbrev pub dot : List ℕ → List ℕ
-dot text = 46 ∷ text
-
-abbrev pub site_text : Site → List ℕ
-site_text SiteA = codes "A"
-site_text SiteB = codes "B"
-
 -- whose act an entry is; the surroundings have no site
 abbrev pub who_text : Who → List ℕ
 who_text A = codes "A"
@@ -40,7 +31,7 @@ owner_state_text Running = codes "RUNNING"
 -- number, site and state of the owner
 abbrev pub owner_text : Option Owner → List ℕ
 owner_text None = codes "NONE"
-owner_text (Some owner) = decimal owner.inc ++ dot (site_text owner.site ++ dot (owner_state_text owner.state))
+owner_text (Some owner) = decimal owner.inc ++ dot (site_word owner.site ++ dot (owner_state_text owner.state))
 
 -- there is no alternate, and so no takeover
 abbrev pub control_text : Control → List ℕ

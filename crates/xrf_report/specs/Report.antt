@@ -3,8 +3,8 @@ use Rattle.std.specs.Prelude.{ℕ, zero, suc, ◌+◌, List, [], ◌∷◌, ◌+
 use Rattle.std.specs.Fmt.{decimal}
 use Rattle.xrf_base.specs.declared.items.ItemAnswer.{ItemAnswer}
 use Rattle.xrf_base.specs.declared.items.ItemAnswer.TheVariants.{Done, Got, Empty, Locked, LogFull, NotOpen, NameUsed, UnitsFull, BadRrn, TermUsed, TermsFull, NotOn, UserOn, NoUser}
-use Rattle.xrf_scenario.specs.Scenario.{Scen}
-use Rattle.xrf_scenario.specs.Spelling.{blank}
+use Rattle.xrf_world.specs.Base.{Base}
+use Rattle.xrf_report.specs.Words.{blank}
 use Rattle.xrf_scenario.specs.Canonical.{fed}
 use Rattle.xrf_world.specs.declared.entry.Entry.{Entry}
 use Rattle.xrf_world.specs.declared.state.JobState.{JobState}
@@ -46,11 +46,11 @@ abbrev pub state_text : ItemState → List ℕ
 state_text (Answered given) = answer_text given
 state_text Pending = codes "OPEN"
 
-abbrev pub item_line : Scen → List Entry → ℕ → List ℕ
+abbrev pub item_line : Base → List Entry → ℕ → List ℕ
 item_line s t number = line (codes "ITEM A " ++ decimal number ++ blank (state_text (state_of (answer s t number))))
 
 -- the first so many items
-abbrev pub items_text : Scen → List Entry → ℕ → List ℕ
+abbrev pub items_text : Base → List Entry → ℕ → List ℕ
 items_text s t zero = []
 items_text s t (suc count) = items_text s t count ++ item_line s t (suc count)
 
@@ -69,7 +69,7 @@ file_line number None = []
 file_line number (Some value) = line (codes "FILE " ++ decimal number ++ blank value)
 
 -- the first so many records
-abbrev pub file_text : Scen → List Entry → ℕ → List ℕ
+abbrev pub file_text : Base → List Entry → ℕ → List ℕ
 file_text s t zero = []
 file_text s t (suc count) = file_text s t count ++ file_line (suc count) (image s t (suc count))
 
@@ -79,6 +79,6 @@ standing_text t =
     line (codes "TICK 0") ++ line (codes "CONTROL " ++ control_text (control t)) ++ line (codes "JOB A " ++ job_text (job t))
     ++ line (codes "JOB B NONE") ++ line (codes "LOG " ++ log_counts_text (log_counts t))
 
-abbrev pub report : Scen → List Entry → List ℕ
+abbrev pub report : Base → List Entry → List ℕ
 report s t =
     acts_text 1 (reverse t) ++ items_text s t (taken t) ++ standing_text t ++ file_text s t s.file ++ line (codes "DONE")

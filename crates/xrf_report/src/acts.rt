@@ -2,22 +2,24 @@
 
 ghost use Rattle.std.specs.Prelude.{◌≡◌, ◌++◌, OnOk, codes};
 ghost use Rattle.std.specs.Fmt.{decimal};
-ghost use Rattle.xrf_scenario.specs.Spelling.{blank};
-ghost use Rattle.xrf_report.specs.Acts.{site_text, who_text, owner_text, owner_state_text, control_text, signal_text, decided_text, unit_text, log_text, act_text, entry_text};
+ghost use Rattle.xrf_base.specs.Values.{IsValue};
+ghost use Rattle.xrf_forms.specs.declared.writing.Piece.TheVariants.{Number};
+ghost use Rattle.xrf_report.specs.Words.{blank};
+ghost use Rattle.xrf_report.specs.Fits.{Is64, OwnerFits, ControlFits, SignalFits, UnitFits, LogFits, ActFits, EntryFits};
+ghost use Rattle.xrf_report.specs.Acts.{who_text, owner_text, owner_state_text, control_text, signal_text, decided_text, unit_text, log_text, act_text, entry_text};
 
 use Piece::{Number, Text};
 use std::alloc::{AllocError, Global};
-use xrf_base::{Site, UnitId, Value};
-use xrf_scenario::pieces::{Piece, put};
+use xrf_base::{UnitId, Value};
+use xrf_forms::writing::{Piece, put, site_word};
 use xrf_world::{Act, Control, Decided, Entry, LogRec, Owner, OwnerState, Signal, Who};
 
-fn site_word(site: Site) -> &'static [u8]
-    ensures { result.now ≡ site_text site }
+/// The piece of a number.
+pub fn digits<'a>(number: u64) -> Piece<'a>
+    ensures piece { result ≡ Number number }
+    ensures fits { Is64 number }
 {
-    match site {
-        Site::A => b"A",
-        Site::B => b"B",
-    }
+    Number(number)
 }
 
 fn who_word(who: Who) -> &'static [u8]
@@ -47,14 +49,15 @@ fn decided_word(decided: Decided) -> &'static [u8]
 }
 
 fn put_owner(alloc: Global, out: &mut Vec<u8>, owner: Option<Owner>) -> Result<(), AllocError>
-    ensures { OnOk result (out.new.items ≡ out.old.items ++ owner_text owner) }
+    ensures text { OnOk result (out.new.items ≡ out.old.items ++ owner_text owner) }
+    ensures fits { OnOk result (OwnerFits owner) }
 {
     match owner {
         Some(owner) => put(
             alloc,
             out,
             &[
-                Number(owner.inc as u64),
+                digits(owner.inc as u64),
                 Text(b"."),
                 Text(site_word(owner.site)),
                 Text(b"."),
@@ -66,35 +69,38 @@ fn put_owner(alloc: Global, out: &mut Vec<u8>, owner: Option<Owner>) -> Result<(
 }
 
 pub fn put_control(alloc: Global, out: &mut Vec<u8>, control: &Control) -> Result<(), AllocError>
-    ensures { OnOk result (out.new.items ≡ out.old.items ++ control_text control.now) }
+    ensures text { OnOk result (out.new.items ≡ out.old.items ++ control_text control.now) }
+    ensures fits { OnOk result (ControlFits control.now) }
 {
-    put(alloc, out, &[Number(control.last as u64), Text(b" OWNER ")])?;
+    put(alloc, out, &[digits(control.last as u64), Text(b" OWNER ")])?;
     put_owner(alloc, out, control.owner)?;
     put(alloc, out, &[Text(b" ALT NONE TAKING NONE")])
 }
 
 fn put_unit(alloc: Global, out: &mut Vec<u8>, unit: UnitId) -> Result<(), AllocError>
-    ensures { OnOk result (out.new.items ≡ out.old.items ++ unit_text unit) }
+    ensures text { OnOk result (out.new.items ≡ out.old.items ++ unit_text unit) }
+    ensures fits { OnOk result (UnitFits unit) }
 {
     put(
         alloc,
         out,
         &[
-            Number(unit.inc as u64),
+            digits(unit.inc as u64),
             Text(b"."),
-            Number(unit.serial as u64),
+            digits(unit.serial as u64),
         ],
     )
 }
 
 fn put_record(alloc: Global, out: &mut Vec<u8>, logged: &LogRec) -> Result<(), AllocError>
-    ensures { OnOk result (out.new.items ≡ out.old.items ++ log_text logged.now) }
+    ensures text { OnOk result (out.new.items ≡ out.old.items ++ log_text logged.now) }
+    ensures fits { OnOk result (LogFits logged.now) }
 {
     match logged {
         LogRec::Put(unit, number) => {
             put(alloc, out, &[Text(b"PUT ")])?;
             put_unit(alloc, out, *unit)?;
-            put(alloc, out, &[Text(b" "), Number(*number as u64)])
+            put(alloc, out, &[Text(b" "), digits(*number as u64)])
         }
         LogRec::Commit(unit) => {
             put(alloc, out, &[Text(b"COMMIT ")])?;
@@ -111,9 +117,10 @@ fn put_log(
     place: u32,
     logged: &LogRec,
 ) -> Result<(), AllocError>
-    ensures { OnOk result (out.new.items ≡ out.old.items ++ word.now ++ decimal place ++ blank (log_text logged.now)) }
+    ensures text { OnOk result (out.new.items ≡ out.old.items ++ word.now ++ decimal place ++ blank (log_text logged.now)) }
+    ensures fits { OnOk result (Is64 place × LogFits logged.now) }
 {
-    put(alloc, out, &[Text(word), Number(place as u64), Text(b" ")])?;
+    put(alloc, out, &[Text(word), digits(place as u64), Text(b" ")])?;
     put_record(alloc, out, logged)
 }
 
@@ -123,24 +130,26 @@ fn put_signal(
     word: &[u8],
     signal: &Signal,
 ) -> Result<(), AllocError>
-    ensures { OnOk result (out.new.items ≡ out.old.items ++ word.now ++ signal_text signal.now) }
+    ensures text { OnOk result (out.new.items ≡ out.old.items ++ word.now ++ signal_text signal.now) }
+    ensures fits { OnOk result (SignalFits signal.now) }
 {
     put(
         alloc,
         out,
         &[
             Text(word),
-            Number(signal.counter),
+            digits(signal.counter),
             Text(b" "),
-            Number(signal.cursor as u64),
+            digits(signal.cursor as u64),
         ],
     )
 }
 
 fn put_counted(alloc: Global, out: &mut Vec<u8>, word: &[u8], number: u64) -> Result<(), AllocError>
-    ensures { OnOk result (out.new.items ≡ out.old.items ++ word.now ++ decimal number) }
+    ensures text { OnOk result (out.new.items ≡ out.old.items ++ word.now ++ decimal number) }
+    ensures fits { OnOk result (Is64 number) }
 {
-    put(alloc, out, &[Text(word), Number(number)])
+    put(alloc, out, &[Text(word), digits(number)])
 }
 
 fn put_write(
@@ -150,7 +159,8 @@ fn put_write(
     number: u16,
     value: &Value,
 ) -> Result<(), AllocError>
-    ensures { OnOk result (out.new.items ≡ out.old.items ++ codes "FILEWRITE " ++ unit_text unit ++ blank (decimal number ++ blank value.now)) }
+    ensures text { OnOk result (out.new.items ≡ out.old.items ++ codes "FILEWRITE " ++ unit_text unit ++ blank (decimal number ++ blank value.now)) }
+    ensures fits { OnOk result (UnitFits unit × Is64 number × IsValue value.now) }
 {
     put(alloc, out, &[Text(b"FILEWRITE ")])?;
     put_unit(alloc, out, unit)?;
@@ -159,7 +169,7 @@ fn put_write(
         out,
         &[
             Text(b" "),
-            Number(number as u64),
+            digits(number as u64),
             Text(b" "),
             Text(value.text()),
         ],
@@ -167,14 +177,16 @@ fn put_write(
 }
 
 fn put_grant(alloc: Global, out: &mut Vec<u8>, control: &Control) -> Result<(), AllocError>
-    ensures { OnOk result (out.new.items ≡ out.old.items ++ codes "CTLWRITE " ++ control_text control.now) }
+    ensures text { OnOk result (out.new.items ≡ out.old.items ++ codes "CTLWRITE " ++ control_text control.now) }
+    ensures fits { OnOk result (ControlFits control.now) }
 {
     put(alloc, out, &[Text(b"CTLWRITE ")])?;
     put_control(alloc, out, control)
 }
 
 fn put_act(alloc: Global, out: &mut Vec<u8>, act: &Act) -> Result<(), AllocError>
-    ensures { OnOk result (out.new.items ≡ out.old.items ++ act_text act.now) }
+    ensures text { OnOk result (out.new.items ≡ out.old.items ++ act_text act.now) }
+    ensures fits { OnOk result (ActFits act.now) }
 {
     match act {
         Act::StartActive => put(alloc, out, &[Text(b"START ACTIVE")]),
@@ -203,17 +215,18 @@ fn put_act(alloc: Global, out: &mut Vec<u8>, act: &Act) -> Result<(), AllocError
 
 /// Appends the tick of an entry, whose act it is, the number of the region, and the act.
 pub fn put_entry(alloc: Global, out: &mut Vec<u8>, entry: &Entry) -> Result<(), AllocError>
-    ensures { OnOk result (out.new.items ≡ out.old.items ++ entry_text entry.now) }
+    ensures text { OnOk result (out.new.items ≡ out.old.items ++ entry_text entry.now) }
+    ensures fits { OnOk result (EntryFits entry.now) }
 {
     put(
         alloc,
         out,
         &[
-            Number(entry.tick as u64),
+            digits(entry.tick as u64),
             Text(b" "),
             Text(who_word(entry.who)),
             Text(b" "),
-            Number(entry.inc as u64),
+            digits(entry.inc as u64),
             Text(b" "),
         ],
     )?;

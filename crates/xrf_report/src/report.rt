@@ -2,16 +2,19 @@
 
 ghost use Rattle.std.specs.Prelude.{◌≡◌, ◌++◌, ◌+◌, ◌<◌, ◌≤◌, OnOk, codes, length, Option};
 ghost use Rattle.std.specs.Fmt.{decimal};
-ghost use Rattle.xrf_scenario.specs.Spelling.{blank};
+ghost use Rattle.xrf_report.specs.Words.{blank};
 ghost use Rattle.xrf_report.specs.Acts.{entry_text, control_text};
 ghost use Rattle.xrf_report.specs.Report.{line, acts_text, answer_text, state_text, item_line, items_text, job_text, log_counts_text, file_line, file_text, standing_text, report};
+ghost use Rattle.xrf_report.specs.Fits.{EntryFits, AnswerFits, StateFits, ItemsFit, JobFits, CountsFit, RecordFits, RecordsFit, ControlFits, StandingFits, ReportFits};
+ghost use Rattle.xrf_world.specs.Items.{answer, state_of};
+ghost use Rattle.std.specs.List.{AllByRecursion};
 ghost use Rattle.xrf_world.specs.Trace.{taken, control, job, log_counts};
 
-use crate::acts::{put_control, put_entry};
-use Piece::{Number, Text};
+use crate::acts::{digits, put_control, put_entry};
+use Piece::Text;
 use std::alloc::{AllocError, Global};
 use xrf_base::{ItemAnswer, Value};
-use xrf_scenario::pieces::{Piece, put};
+use xrf_forms::writing::{Piece, put};
 use xrf_world::{Entry, ItemState, JobState, LogCounts, World};
 
 fn put_act_line(
@@ -20,15 +23,17 @@ fn put_act_line(
     number: u64,
     entry: &Entry,
 ) -> Result<(), AllocError>
-    ensures { OnOk result (out.new.items ≡ out.old.items ++ line (codes "ACT " ++ decimal number ++ blank (entry_text entry.now))) }
+    ensures text { OnOk result (out.new.items ≡ out.old.items ++ line (codes "ACT " ++ decimal number ++ blank (entry_text entry.now))) }
+    ensures fits { OnOk result (EntryFits entry.now) }
 {
-    put(alloc, out, &[Text(b"* ACT "), Number(number), Text(b" ")])?;
+    put(alloc, out, &[Text(b"* ACT "), digits(number), Text(b" ")])?;
     put_entry(alloc, out, entry)?;
     put(alloc, out, &[Text(b"\n")])
 }
 
 fn put_acts(alloc: Global, out: &mut Vec<u8>, journal: &[Entry]) -> Result<(), AllocError>
-    ensures { OnOk result (out.new.items ≡ out.old.items ++ acts_text 1 journal.now) }
+    ensures text { OnOk result (out.new.items ≡ out.old.items ++ acts_text 1 journal.now) }
+    ensures fits { OnOk result (AllByRecursion EntryFits journal.now) }
 {
     let mut number = 1u64;
     for entry in journal {
@@ -39,7 +44,8 @@ fn put_acts(alloc: Global, out: &mut Vec<u8>, journal: &[Entry]) -> Result<(), A
 }
 
 fn put_answer(alloc: Global, out: &mut Vec<u8>, answer: &ItemAnswer) -> Result<(), AllocError>
-    ensures { OnOk result (out.new.items ≡ out.old.items ++ answer_text answer.now) }
+    ensures text { OnOk result (out.new.items ≡ out.old.items ++ answer_text answer.now) }
+    ensures fits { OnOk result (AnswerFits answer.now) }
 {
     match answer {
         ItemAnswer::Done => put(alloc, out, &[Text(b"DONE")]),
@@ -60,7 +66,8 @@ fn put_answer(alloc: Global, out: &mut Vec<u8>, answer: &ItemAnswer) -> Result<(
 }
 
 fn put_state(alloc: Global, out: &mut Vec<u8>, state: &ItemState) -> Result<(), AllocError>
-    ensures { OnOk result (out.new.items ≡ out.old.items ++ state_text state.now) }
+    ensures text { OnOk result (out.new.items ≡ out.old.items ++ state_text state.now) }
+    ensures fits { OnOk result (StateFits state.now) }
 {
     match state {
         ItemState::Answered(answer) => put_answer(alloc, out, answer),
@@ -77,19 +84,21 @@ fn put_item_line(
 ) -> Result<(), AllocError>
     requires least { 1 ≤ number }
     requires taken { number ≤ taken world.now.trace }
-    ensures { OnOk result (out.new.items ≡ out.old.items ++ item_line world.now.scenario world.now.trace number) }
+    ensures text { OnOk result (out.new.items ≡ out.old.items ++ item_line world.now.scenario world.now.trace number) }
+    ensures fits { OnOk result (StateFits (state_of (answer world.now.scenario world.now.trace number))) }
 {
     put(
         alloc,
         out,
-        &[Text(b"* ITEM A "), Number(number as u64), Text(b" ")],
+        &[Text(b"* ITEM A "), digits(number as u64), Text(b" ")],
     )?;
     put_state(alloc, out, &world.item_state(number - 1))?;
     put(alloc, out, &[Text(b"\n")])
 }
 
 fn put_items(alloc: Global, out: &mut Vec<u8>, world: &World) -> Result<(), AllocError>
-    ensures { OnOk result (out.new.items ≡ out.old.items ++ items_text world.now.scenario world.now.trace (taken world.now.trace)) }
+    ensures text { OnOk result (out.new.items ≡ out.old.items ++ items_text world.now.scenario world.now.trace (taken world.now.trace)) }
+    ensures fits { OnOk result (ItemsFit world.now.scenario world.now.trace (taken world.now.trace)) }
 {
     let count = world.item_count();
     for k in 0..count {
@@ -99,7 +108,8 @@ fn put_items(alloc: Global, out: &mut Vec<u8>, world: &World) -> Result<(), Allo
 }
 
 fn put_job(alloc: Global, out: &mut Vec<u8>, job: JobState) -> Result<(), AllocError>
-    ensures { OnOk result (out.new.items ≡ out.old.items ++ job_text job) }
+    ensures text { OnOk result (out.new.items ≡ out.old.items ++ job_text job) }
+    ensures fits { OnOk result (JobFits job) }
 {
     match job {
         JobState::Absent => put(alloc, out, &[Text(b"NONE")]),
@@ -107,24 +117,25 @@ fn put_job(alloc: Global, out: &mut Vec<u8>, job: JobState) -> Result<(), AllocE
         JobState::Restarting(number) => put(
             alloc,
             out,
-            &[Number(number as u64), Text(b" RESTARTING")],
+            &[digits(number as u64), Text(b" RESTARTING")],
         ),
-        JobState::Active(number) => put(alloc, out, &[Number(number as u64), Text(b" ACTIVE")]),
+        JobState::Active(number) => put(alloc, out, &[digits(number as u64), Text(b" ACTIVE")]),
     }
 }
 
 fn put_log_counts(alloc: Global, out: &mut Vec<u8>, counts: LogCounts) -> Result<(), AllocError>
-    ensures { OnOk result (out.new.items ≡ out.old.items ++ log_counts_text counts) }
+    ensures text { OnOk result (out.new.items ≡ out.old.items ++ log_counts_text counts) }
+    ensures fits { OnOk result (CountsFit counts) }
 {
     put(
         alloc,
         out,
         &[
-            Number(counts.records as u64),
+            digits(counts.records as u64),
             Text(b" COMMITTED "),
-            Number(counts.committed as u64),
+            digits(counts.committed as u64),
             Text(b" FLIGHT "),
-            Number(counts.flight as u64),
+            digits(counts.flight as u64),
         ],
     )
 }
@@ -135,7 +146,8 @@ fn put_file_line(
     number: u64,
     place: &Option<Value>,
 ) -> Result<(), AllocError>
-    ensures { OnOk result (out.new.items ≡ out.old.items ++ file_line number place.now) }
+    ensures text { OnOk result (out.new.items ≡ out.old.items ++ file_line number place.now) }
+    ensures fits { OnOk result (RecordFits place.now) }
 {
     match place {
         Some(value) => put(
@@ -143,7 +155,7 @@ fn put_file_line(
             out,
             &[
                 Text(b"* FILE "),
-                Number(number),
+                digits(number),
                 Text(b" "),
                 Text(value.text()),
                 Text(b"\n"),
@@ -154,7 +166,8 @@ fn put_file_line(
 }
 
 fn put_file(alloc: Global, out: &mut Vec<u8>, world: &World) -> Result<(), AllocError>
-    ensures { OnOk result (out.new.items ≡ out.old.items ++ file_text world.now.scenario world.now.trace world.now.scenario.file) }
+    ensures text { OnOk result (out.new.items ≡ out.old.items ++ file_text world.now.scenario world.now.trace world.now.scenario.file) }
+    ensures fits { OnOk result (RecordsFit world.now.scenario world.now.trace world.now.scenario.file) }
 {
     let mut number = 1u64;
     for place in world.image() {
@@ -165,7 +178,8 @@ fn put_file(alloc: Global, out: &mut Vec<u8>, world: &World) -> Result<(), Alloc
 }
 
 fn put_control_line(alloc: Global, out: &mut Vec<u8>, world: &World) -> Result<(), AllocError>
-    ensures { OnOk result (out.new.items ≡ out.old.items ++ line (codes "CONTROL " ++ control_text (control world.now.trace))) }
+    ensures text { OnOk result (out.new.items ≡ out.old.items ++ line (codes "CONTROL " ++ control_text (control world.now.trace))) }
+    ensures fits { OnOk result (ControlFits (control world.now.trace)) }
 {
     put(alloc, out, &[Text(b"* CONTROL ")])?;
     put_control(alloc, out, &world.control())?;
@@ -173,7 +187,8 @@ fn put_control_line(alloc: Global, out: &mut Vec<u8>, world: &World) -> Result<(
 }
 
 fn put_job_line(alloc: Global, out: &mut Vec<u8>, world: &World) -> Result<(), AllocError>
-    ensures { OnOk result (out.new.items ≡ out.old.items ++ line (codes "JOB A " ++ job_text (job world.now.trace))) }
+    ensures text { OnOk result (out.new.items ≡ out.old.items ++ line (codes "JOB A " ++ job_text (job world.now.trace))) }
+    ensures fits { OnOk result (JobFits (job world.now.trace)) }
 {
     put(alloc, out, &[Text(b"* JOB A ")])?;
     put_job(alloc, out, world.job())?;
@@ -181,7 +196,8 @@ fn put_job_line(alloc: Global, out: &mut Vec<u8>, world: &World) -> Result<(), A
 }
 
 fn put_log_line(alloc: Global, out: &mut Vec<u8>, world: &World) -> Result<(), AllocError>
-    ensures { OnOk result (out.new.items ≡ out.old.items ++ line (codes "LOG " ++ log_counts_text (log_counts world.now.trace))) }
+    ensures text { OnOk result (out.new.items ≡ out.old.items ++ line (codes "LOG " ++ log_counts_text (log_counts world.now.trace))) }
+    ensures fits { OnOk result (CountsFit (log_counts world.now.trace)) }
 {
     put(alloc, out, &[Text(b"* LOG ")])?;
     put_log_counts(alloc, out, world.log_counts())?;
@@ -189,7 +205,8 @@ fn put_log_line(alloc: Global, out: &mut Vec<u8>, world: &World) -> Result<(), A
 }
 
 fn put_standing(alloc: Global, out: &mut Vec<u8>, world: &World) -> Result<(), AllocError>
-    ensures { OnOk result (out.new.items ≡ out.old.items ++ standing_text world.now.trace) }
+    ensures text { OnOk result (out.new.items ≡ out.old.items ++ standing_text world.now.trace) }
+    ensures fits { OnOk result (StandingFits world.now.trace) }
 {
     put(alloc, out, &[Text(b"* TICK 0\n")])?;
     put_control_line(alloc, out, world)?;
@@ -200,7 +217,8 @@ fn put_standing(alloc: Global, out: &mut Vec<u8>, world: &World) -> Result<(), A
 
 /// Appends the report of a run.
 pub fn put_report(alloc: Global, out: &mut Vec<u8>, world: &World) -> Result<(), AllocError>
-    ensures { OnOk result (out.new.items ≡ out.old.items ++ report world.now.scenario world.now.trace) }
+    ensures text { OnOk result (out.new.items ≡ out.old.items ++ report world.now.scenario world.now.trace) }
+    ensures fits { OnOk result (ReportFits world.now.scenario world.now.trace) }
 {
     put_acts(alloc, out, world.journal())?;
     put_items(alloc, out, world)?;

@@ -1,142 +1,267 @@
--- What fits keeps the ranges, and reading goes on with it.
-use Rattle.std.proofs.Common.{◌≡◌, ◌≤◌, ◌+◌, ◌-◌, ℕ, zero, suc, Bool, true, false, if◌then◌else◌, Option, Some, None, is_some, List, [], ◌∷◌, length, slice_set, replicate, refl, sym, ◌∙◌, ap, arith, subst, IfSome, Err}
-use Rattle.std.specs.Option.{option_map_or, option_and_then}
-use Rattle.std.specs.List.{AllByRecursion}
-use Rattle.std.proofs.Math.ListN.{length-set}
-use Rattle.std.proofs.lemmas.List.{length-append, length-replicate}
-use Rattle.std.proofs.lemmas.Bool.{leb-true}
-use Rattle.xrf_base.proofs.Texts.{both-left, both-right}
-use Rattle.xrf_base.specs.Values.{IsValue}
-use Rattle.xrf_scenario.specs.Shapes.{line_of}
-use Rattle.xrf_scenario.specs.Spelling.{spell, IsLine}
-use Rattle.xrf_scenario.specs.Reading.{SoFar, nothing_said, fits, after, made, is_settings, is_making, is_past_choices}
-use Rattle.xrf_scenario.specs.declared.reading.Part.{Part}
-use Rattle.xrf_scenario.specs.declared.reading.Part.TheVariants.{Nothing, Settings, Making, Whole}
-use Rattle.xrf_scenario.specs.Said.{IsSaid}
-use Rattle.xrf_scenario.specs.Machine.{fitting, read_on, fault_at}
-use Rattle.xrf_scenario.specs.declared.line.Line.{Line}
-use Rattle.xrf_scenario.specs.declared.line.Line.TheVariants.{Header, File, Record, Work, Choices, Once, Times, End}
-use Rattle.xrf_scenario.proofs.ShapeLaws.{line-found}
+-- Reading goes by what each line says, and a text is read or refused in one way.
+use Rattle.std.proofs.Common.{◌≡◌, ◌+◌, inl, inr, max, ℕ, Bool, true, false, IsTrue, if◌then◌else◌, Option, Some, None, List, [], ◌∷◌, ◌++◌, length, Result, Ok, Err, refl, sym, ◌∙◌, ap, subst, append-nil, append_assoc, length-append, arith}
+use Rattle.xrf_text.specs.Text.{words}
+use Rattle.xrf_forms.proofs.ApartLaws.{line-again, settings-apart, choices-apart}
+use Rattle.xrf_forms.proofs.FormLaws.{line-found}
+use Rattle.xrf_forms.proofs.LineAgain.{header_again}
+use Rattle.xrf_forms.specs.Reading.{header_of, line_of}
+use Rattle.xrf_forms.specs.Table.{settings_of, choices_table}
+use Rattle.xrf_forms.specs.declared.form.Format.{Format}
+use Rattle.xrf_forms.specs.declared.line.Line.{Line}
+use Rattle.xrf_forms.specs.declared.reason.Reason.{Reason}
+use Rattle.xrf_forms.specs.declared.reason.Reason.TheVariants.{AfterEnd, NoEnd}
+use Rattle.xrf_scenario.proofs.ReasonLaws.{header-found, refused-first, first-refused}
+use Rattle.xrf_scenario.specs.Built.{allows, allows_format}
+use Rattle.xrf_scenario.specs.Lines.{text_lines, is_skipped, is_report, bytes_fault}
+use Rattle.xrf_scenario.specs.Machine.{Fault, read_on, read_whole}
+use Rattle.xrf_scenario.specs.Reading.{begun, SaysIn, SaysThen, Says, SaysAll, Reads, told, HasBadLine, EndsEarly, HasBad, OneReading, NeverBoth, OneFault}
+use Rattle.xrf_scenario.specs.Machine.{if_built, take_line, take_header, take_words, step}
+use Rattle.xrf_scenario.specs.Scenario.{Scen, scenario_of}
+use Rattle.xrf_scenario.specs.SoFar.{SoFar, nothing_said, is_whole}
+use Rattle.xrf_scenario.specs.Taking.{take}
+use Rattle.xrf_scenario.specs.declared.built.Forms.{Forms}
+use Rattle.xrf_scenario.specs.declared.given.Part.{Part}
+use Rattle.xrf_scenario.specs.declared.given.Part.TheVariants.{Start, Settings, Making, Whole}
+use Rattle.xrf_scenario.specs.declared.numbered.Numbered.{Numbered}
 
--- the places of records may be empty
-empty-values : (n : ℕ) → AllByRecursion (λ place. IfSome place IsValue) (replicate n None)
-empty-values zero = tt
-empty-values (suc n) = (tt, empty-values n)
+-- what is allowed and said is said, and what is said was allowed
+if-said : (built : Bool) (said : Result SoFar Reason) (next : SoFar) → if_built built said ≡ Ok next → IsTrue built × (said ≡ Ok next)
+if-said true said next h = (refl, h)
+if-said false (Ok other) next h = absurd (cc)
+if-said false (Err reason) next h = absurd (cc)
 
--- nothing said is in range
-pub nothing-said : IsSaid nothing_said
-nothing-said = record {
-  file = tt;
-  places = length-replicate {A = Option (List ℕ)} 256 None;
-  values = empty-values 256;
-  work = refl;
-  items = omega arith;
-  choices = omega arith;
-  within = λ past. absurd (cc);
-}
+said-if : (built : Bool) (said : Result SoFar Reason) (next : SoFar) → IsTrue built → said ≡ Ok next → if_built built said ≡ Ok next
+said-if true said next h e = e
+said-if false said next h e = absurd (cc)
 
--- a place that is set holds a value, and the others what they held
-set-values : (places : List (Option (List ℕ))) (k : ℕ) (value : List ℕ) → IsValue value → AllByRecursion (λ place. IfSome place IsValue) places
-    → AllByRecursion (λ place. IfSome place IsValue) (slice_set places k (Some value))
-set-values [] k value is all = tt
-set-values (place ∷ places) zero value is all = (is, all.1)
-set-values (place ∷ places) (suc k) value is all = (all.0, set-values places k value is all.1)
+-- a line of some forms that is taken is spelled and may come
+line-taken : (forms : Forms) (number : ℕ) (so next : SoFar) (ws : List (List ℕ)) (read : Result Line Reason) → take_line forms number so ws read ≡ Ok next
+    → (line : Line) × ((read ≡ Ok line) × IsTrue (allows forms so line) × (take number so ws line ≡ Ok next))
+line-taken forms number so next ws (Ok line) h = let k = if-said (allows forms so line) (take number so ws line) next h in (line, (refl, k.0, k.1))
+line-taken forms number so next ws (Err reason) h = absurd (cc)
 
-kept : {X : Type 0} (test : Bool) (x y : X) → (if test then Some x else None) ≡ Some y → (test ≡ true) × (x ≡ y)
-kept true x y h = (refl, cc)
-kept false x y h = absurd (cc)
+header-taken : (forms : Forms) (so next : SoFar) (read : Result Format Reason) → take_header forms so read ≡ Ok next
+    → (format : Format) × ((read ≡ Ok format) × IsTrue (allows_format forms format) × (next ≡ begun so format))
+header-taken forms so next (Ok format) h =
+    let k = if-said (allows_format forms format) (Ok (begun so format)) next h in
+    let same : next ≡ begun so format = cc in
+    (format, (refl, k.0, same))
+header-taken forms so next (Err reason) h = absurd (cc)
 
--- a line that fits is one
-pub fitting-is : (so : SoFar) (text : List ℕ) (line : Line) → fitting so text ≡ Some line → IsLine line × (text ≡ spell line) × (fits so line ≡ true)
-fitting-is so text line h = by (line_of text) refl h
+-- what is taken in a part says something there
+taken-says : (part : Part) (forms : Forms) (number : ℕ) (so next : SoFar) (ws : List (List ℕ)) → take_words part forms number so ws ≡ Ok next → SaysIn part forms number so ws next
+taken-says Start forms number so next ws h =
+    let k = header-taken forms so next (header_of ws) h in
+    (k.0, (header-found ws k.0 k.1.0, k.1.1, k.1.2))
+taken-says Settings forms number so next ws h =
+    let k = line-taken forms number so next ws (line_of (settings_of so.format) ws) h in
+    (k.0, (line-found (settings_of so.format) ws k.0 k.1.0, k.1.1, k.1.2))
+taken-says Making forms number so next ws h =
+    let k = line-taken forms number so next ws (line_of choices_table ws) h in
+    (k.0, (line-found choices_table ws k.0 k.1.0, k.1.1, k.1.2))
+taken-says Whole forms number so next ws h = absurd (cc)
+
+-- and what says something is taken
+says-taken : (part : Part) (forms : Forms) (number : ℕ) (so next : SoFar) (ws : List (List ℕ)) → SaysIn part forms number so ws next → take_words part forms number so ws ≡ Ok next
+says-taken Start forms number so next ws h =
+    ap (λ (w : List (List ℕ)). take_header forms so (header_of w)) h.1.0 ∙ ap (take_header forms so) (header_again h.0) ∙ said-if (allows_format forms h.0) (Ok (begun so h.0)) next h.1.1 (ap (λ (n : SoFar). Ok n) (sym h.1.2))
+says-taken Settings forms number so next ws h =
+    ap (take_line forms number so ws) (line-again (settings_of so.format) ws h.0 (settings-apart so.format) h.1.0) ∙ said-if (allows forms so h.0) (take number so ws h.0) next h.1.1 h.1.2
+says-taken Making forms number so next ws h =
+    ap (take_line forms number so ws) (line-again choices_table ws h.0 choices-apart h.1.0) ∙ said-if (allows forms so h.0) (take number so ws h.0) next h.1.1 h.1.2
+says-taken Whole forms number so next ws h = absurd h
+
+-- a step that is taken says something
+pub step-says : (forms : Forms) (number : ℕ) (so next : SoFar) (line : List ℕ) → step forms number so line ≡ Ok next → Says forms number so line next
+step-says forms number so next line h = by (is_skipped line) (is_whole so.part) h
   where
-    by : (o : Option Line) → line_of text ≡ o → option_and_then (λ l. if fits so l then Some l else None) o ≡ Some line → IsLine line × (text ≡ spell line) × (fits so line ≡ true)
-    by None e k = absurd (cc)
-    by (Some l) e k =
-        let same = kept (fits so l) l line k in
-        let found = line-found text l e in
-        (subst IsLine same.1 found.0, subst (λ (m : Line). text ≡ spell m) same.1 found.1, subst (λ (m : Line). fits so m ≡ true) same.1 same.0)
+    report : (r : Bool) → ◌≡◌ {A = Result SoFar Reason} (if r then Ok so else Err AfterEnd) (Ok next) → IsTrue r × (next ≡ so)
+    report true e = let same : next ≡ so = cc in (refl, same)
+    report false e = absurd (cc)
 
--- settings come before CHOICES
-not_past : (part : Part) → is_settings part ≡ true → is_past_choices part ≡ true → ⊥
-not_past Nothing h past = cc
-not_past Settings h past = cc
-not_past Making h past = cc
-not_past Whole h past = cc
+    bytes : (o : Option Reason) → ◌≡◌ {A = Result SoFar Reason} (elim o [ Some reason ↦ Err reason | None ↦ take_words so.part forms number so (words line) ]) (Ok next)
+        → (o ≡ None) × SaysIn so.part forms number so (words line) next
+    bytes (Some reason) e = absurd (cc)
+    bytes None e = (refl, taken-says so.part forms number so next (words line) e)
 
--- and choices behind it
-making_past : (part : Part) → is_making part ≡ true → is_past_choices part ≡ true
-making_past Making h = refl
-making_past Nothing h = absurd (cc)
-making_past Settings h = absurd (cc)
-making_past Whole h = absurd (cc)
+    by : (skipped ended : Bool) → ◌≡◌ {A = Result SoFar Reason} (if skipped then Ok so else if ended then (if is_report line then Ok so else Err AfterEnd)
+        else elim (bytes_fault line) [ Some reason ↦ Err reason | None ↦ take_words so.part forms number so (words line) ]) (Ok next)
+        → SaysThen skipped ended forms number so line next
+    by true ended e = let same : next ≡ so = cc in same
+    by false true e = report (is_report line) e
+    by false false e = bytes (bytes_fault line) e
 
--- what fits keeps the ranges
-pub said-after : (so : SoFar) (number : ℕ) (line : Line) → IsSaid so → IsLine line → fits so line ≡ true → IsSaid (after number so line)
-said-after so number Header said is fit = record { file = said.file; places = said.places; values = said.values; work = said.work; items = said.items; choices = said.choices; within = λ past. absurd (cc) }
-said-after so number (File count) said is fit = record { file = is; places = said.places; values = said.values; work = said.work; items = said.items; choices = said.choices; within = λ past. absurd (not_past so.part (both-left _ _ fit) past) }
-said-after so number (Record record_number value) said is fit = record {
-  file = said.file;
-  places = length-set so.records (record_number - 1) (Some value) ∙ said.places;
-  values = set-values so.records (record_number - 1) value is.2 said.values;
-  work = said.work;
-  items = said.items;
-  choices = said.choices;
-  within = λ past. absurd (not_past so.part (both-left _ _ fit) past);
-}
-said-after so number (Work item) said is fit =
-    let few : length so.work ≤ 61 = leb-true (length so.work) 61 (both-right _ _ (both-left _ _ fit)) in
-    record {
-      file = said.file;
-      places = said.places;
-      values = said.values;
-      work = both-right _ _ fit;
-      items = omega (arith, length-append so.work (item ∷ []));
-      choices = said.choices;
-      within = λ past. absurd (not_past so.part (both-left _ _ (both-left _ _ fit)) past);
-    }
-said-after so number Choices said is fit = record { file = said.file; places = said.places; values = said.values; work = said.work; items = said.items; choices = said.choices; within = λ past. both-right _ _ fit }
-said-after so number (Once choice) said is fit =
-    let few : length so.choices + 1 ≤ 8192 = leb-true (length so.choices + 1) 8192 (both-right _ _ fit) in
-    record {
-      file = said.file;
-      places = said.places;
-      values = said.values;
-      work = said.work;
-      items = said.items;
-      choices = omega (arith, length-append so.choices (made choice number ∷ []));
-      within = λ past. said.within past;
-    }
-said-after so number (Times choice count) said is fit =
-    let few : length so.choices + count ≤ 8192 = leb-true (length so.choices + count) 8192 (both-right _ _ fit) in
-    record {
-      file = said.file;
-      places = said.places;
-      values = said.values;
-      work = said.work;
-      items = said.items;
-      choices = omega (arith, length-append so.choices (replicate count (made choice number)), length-replicate count (made choice number));
-      within = λ past. said.within past;
-    }
-said-after so number End said is fit = record { file = said.file; places = said.places; values = said.values; work = said.work; items = said.items; choices = said.choices; within = λ past. said.within (making_past so.part fit) }
-
--- with a line that fits reading goes on behind it
-pub goes-on : (so new : SoFar) (number : ℕ) (text : List ℕ) (texts : List (List ℕ)) (fit : Bool) → fit ≡ true → fit ≡ is_some (fitting so text)
-    → new ≡ option_map_or (after (number + 1) so) (fitting so text) so → IsSaid so → (read_on so number (text ∷ texts) ≡ read_on new (number + 1) texts) × IsSaid new
-goes-on so new number text texts fit may told is said = by (fitting so text) refl (sym may ∙ told) is
+-- and what says something is a step
+pub says-step : (forms : Forms) (number : ℕ) (so next : SoFar) (line : List ℕ) → Says forms number so line next → step forms number so line ≡ Ok next
+says-step forms number so next line h = by (is_skipped line) (is_whole so.part) h
   where
-    by : (o : Option Line) → fitting so text ≡ o → true ≡ is_some o → new ≡ option_map_or (after (number + 1) so) o so
-        → (read_on so number (text ∷ texts) ≡ read_on new (number + 1) texts) × IsSaid new
-    by None e k is = absurd (cc)
-    by (Some line) e k is =
-        let found = fitting-is so text line e in
-        (rw (e, read_on) (ap (λ (s : SoFar). read_on s (number + 1) texts) (sym is)), subst IsSaid (sym is) (said-after so (number + 1) line said found.0 found.2))
+    report : (r : Bool) → IsTrue r → next ≡ so → ◌≡◌ {A = Result SoFar Reason} (if r then Ok so else Err AfterEnd) (Ok next)
+    report true t e = ap (λ (n : SoFar). Ok n) (sym e)
+    report false t e = absurd (cc)
 
--- with a line that does not it ends
-pub stops : (so : SoFar) (number : ℕ) (text : List ℕ) (texts : List (List ℕ)) (fit : Bool) → fit ≡ false → fit ≡ is_some (fitting so text)
-    → read_on so number (text ∷ texts) ≡ Err (fault_at (number + 1))
-stops so number text texts fit no_fit told = by (fitting so text) refl (sym no_fit ∙ told)
+    bytes : (o : Option Reason) → o ≡ None → SaysIn so.part forms number so (words line) next
+        → ◌≡◌ {A = Result SoFar Reason} (elim o [ Some reason ↦ Err reason | None ↦ take_words so.part forms number so (words line) ]) (Ok next)
+    bytes (Some reason) e k = absurd (cc)
+    bytes None e k = says-taken so.part forms number so next (words line) k
+
+    by : (skipped ended : Bool) → SaysThen skipped ended forms number so line next
+        → ◌≡◌ {A = Result SoFar Reason} (if skipped then Ok so else if ended then (if is_report line then Ok so else Err AfterEnd)
+        else elim (bytes_fault line) [ Some reason ↦ Err reason | None ↦ take_words so.part forms number so (words line) ]) (Ok next)
+    by true ended e = ap (λ (n : SoFar). Ok n) (sym e)
+    by false true e = report (is_report line) e.0 e.1
+    by false false e = bytes (bytes_fault line) e.0 e.1
+
+-- nothing before a count
+bare : (n : ℕ) → 0 + n ≡ n
+bare n = omega arith
+
+-- one more line in a count
+count-more : (count : ℕ) (line : List ℕ) (lines : List (List ℕ)) → count + 1 + length lines ≡ count + length (line ∷ lines)
+count-more count line lines = omega arith
+
+-- reading goes on behind lines that say something
+pub on-behind : (forms : Forms) (count : ℕ) (so last : SoFar) (lines rest : List (List ℕ)) → SaysAll forms count so lines last
+    → read_on forms so count (lines ++ rest) ≡ read_on forms last (count + length lines) rest
+on-behind forms count so last [] rest h =
+    let none : count + 0 ≡ count = omega arith in
+    subst (λ (s : SoFar). read_on forms so count rest ≡ read_on forms s (count + 0) rest) (sym h) (ap (λ (n : ℕ). read_on forms so n rest) (sym none))
+on-behind forms count so last (line ∷ lines) rest h =
+    let next = h.0 in
+    let took : step forms (count + 1) so line ≡ Ok next = says-step forms (count + 1) so next line h.1.0 in
+    let here : read_on forms so count (line ∷ lines ++ rest) ≡ read_on forms next (count + 1) (lines ++ rest) = rw (took, read_on) refl in
+    here ∙ on-behind forms (count + 1) next last lines rest h.1.1 ∙ ap (λ (n : ℕ). read_on forms last n rest) (count-more count line lines)
+
+-- lines that are read to the end say something
+record Ended (forms : Forms) (count : ℕ) (so : SoFar) (lines : List (List ℕ)) (last : SoFar) : Type 0 where
+  said : SaysAll forms count so lines last
+  whole : is_whole last.part ≡ true
+
+ended : (forms : Forms) (count : ℕ) (so last : SoFar) (lines : List (List ℕ)) → read_on forms so count lines ≡ Ok last → Ended forms count so lines last
+ended forms count so last [] h = by (is_whole so.part) refl h
   where
-    by : (o : Option Line) → fitting so text ≡ o → false ≡ is_some o → read_on so number (text ∷ texts) ≡ Err (fault_at (number + 1))
-    by None e k = rw (e, read_on) refl
-    by (Some line) e k = absurd (cc)
+    by : (b : Bool) → is_whole so.part ≡ b → ◌≡◌ {A = Result SoFar Fault} (if b then Ok so else Err (record { line = max 1 count; reason = NoEnd })) (Ok last) → Ended forms count so [] last
+    by true e k = let same : so ≡ last = cc in record { said = sym same; whole = subst (λ (s : SoFar). is_whole s.part ≡ true) same e }
+    by false e k = absurd (cc)
+ended forms count so last (line ∷ lines) h = by (step forms (count + 1) so line) refl h (λ next k. ended forms (count + 1) next last lines k)
+  where
+    by : (o : Result SoFar Reason) → step forms (count + 1) so line ≡ o
+        → ◌≡◌ {A = Result SoFar Fault} (elim o [ Err reason ↦ Err (record { line = count + 1; reason = told lines reason }) | Ok next ↦ read_on forms next (count + 1) lines ]) (Ok last)
+        → ((next : SoFar) → read_on forms next (count + 1) lines ≡ Ok last → Ended forms (count + 1) next lines last) → Ended forms count so (line ∷ lines) last
+    by (Err reason) e k ih = absurd (cc)
+    by (Ok next) e k ih =
+        let more = ih next k in
+        record { said = (next, (step-says forms (count + 1) so next line e, more.said)); whole = more.whole }
+
+-- what is read is spelled
+pub found-told : (forms : Forms) (text : List ℕ) (so : SoFar) → read_whole forms text ≡ Ok so → Reads forms text (scenario_of so) so.choices
+found-told forms text so h =
+    let end = ended forms 0 nothing_said so (text_lines text) h in
+    record { last = so; said = end.said; whole = end.whole; scenario = refl; made = refl }
+
+-- what is spelled is read
+pub spelled-read : (forms : Forms) (text : List ℕ) (s : Scen) (choices : List Numbered) (r : Reads forms text s choices) → read_whole forms text ≡ Ok r.last
+spelled-read forms text s choices r = all (text_lines text) r.said
+  where
+    close : (count : ℕ) (last : SoFar) → is_whole last.part ≡ true → read_on forms last count [] ≡ Ok last
+    close count last e = rw e refl
+
+    all : (lines : List (List ℕ)) → SaysAll forms 0 nothing_said lines r.last → read_on forms nothing_said 0 lines ≡ Ok r.last
+    all lines said = ap (read_on forms nothing_said 0) (sym (append-nil lines)) ∙ on-behind forms 0 nothing_said r.last lines [] said ∙ close (0 + length lines) r.last r.whole
+
+-- lines that say something, and one more
+pub said-more : (forms : Forms) (count : ℕ) (so mid next : SoFar) (lines : List (List ℕ)) (line : List ℕ) → SaysAll forms count so lines mid → Says forms (count + length lines + 1) mid line next
+    → SaysAll forms count so (lines ++ line ∷ []) next
+said-more forms count so mid next [] line said says =
+    let none : count + 0 ≡ count = omega arith in
+    let here : Says forms (count + 1) mid line next = subst (λ (n : ℕ). Says forms (n + 1) mid line next) none says in
+    (next, (subst (λ (s : SoFar). Says forms (count + 1) s line next) said here, refl))
+said-more forms count so mid next (first ∷ lines) line said says =
+    let place : count + length (first ∷ lines) ≡ count + 1 + length lines = omega arith in
+    (said.0, (said.1.0, said-more forms (count + 1) said.0 mid next lines line said.1.1 (subst (λ (n : ℕ). Says forms (n + 1) mid line next) place says)))
+
+faulty : (forms : Forms) (text : List ℕ) (fault : Fault) (before lines : List (List ℕ)) (so : SoFar) → SaysAll forms 0 nothing_said before so → text_lines text ≡ before ++ lines
+    → read_on forms so (length before) lines ≡ Err fault → HasBad forms text fault.line fault.reason
+faulty forms text fault before [] so said spelled h = by (is_whole so.part) refl h
+  where
+    lines : text_lines text ≡ before
+    lines = spelled ∙ append-nil before
+
+    early : is_whole so.part ≡ false → EndsEarly forms text (max 1 (length before)) NoEnd
+    early e = record {
+      last = so;
+      said = subst (λ (ls : List (List ℕ)). SaysAll forms 0 nothing_said ls so) (sym lines) said;
+      early = e;
+      place = ap (λ (ls : List (List ℕ)). max 1 (length ls)) (sym lines);
+      no_end = refl;
+    }
+
+    by : (b : Bool) → is_whole so.part ≡ b → ◌≡◌ {A = Result SoFar Fault} (if b then Ok so else Err (record { line = max 1 (length before); reason = NoEnd })) (Err fault)
+        → HasBad forms text fault.line fault.reason
+    by true e k = absurd (cc)
+    by false e k =
+        let found : record { line = max 1 (length before); reason = NoEnd } ≡ fault = cc in
+        subst (λ (f : Fault). HasBad forms text f.line f.reason) found (inr (early e))
+faulty forms text fault before (line ∷ lines) so said spelled h =
+    by (step forms (length before + 1) so line) refl h (λ next e k. faulty forms text fault (before ++ line ∷ []) lines next
+    (said-more forms 0 nothing_said so next before line said (subst (λ (n : ℕ). Says forms (n + 1) so line next) (sym (bare (length before))) (step-says forms (length before + 1) so next line e))) (spelled ∙ sym (append_assoc before (line ∷ []) lines))
+    (ap (λ (n : ℕ). read_on forms next n lines) (length-append before (line ∷ [])) ∙ k))
+  where
+    bad : (reason : Reason) → step forms (length before + 1) so line ≡ Err reason → HasBadLine forms text (length before + 1) (told lines reason)
+    bad reason e = record { before = before; bad = line; rest = lines; so = so; first = reason; spelled = spelled; said = said; shown = (refused-first forms (length before + 1) so line reason e).0; is_first = (refused-first forms (length before + 1) so line reason e).1; place = refl; reason_told = refl }
+
+    by : (o : Result SoFar Reason) → step forms (length before + 1) so line ≡ o
+        → ◌≡◌ {A = Result SoFar Fault} (elim o [ Err reason ↦ Err (record { line = length before + 1; reason = told lines reason }) | Ok next ↦ read_on forms next (length before + 1) lines ]) (Err fault)
+        → ((next : SoFar) → step forms (length before + 1) so line ≡ Ok next → read_on forms next (length before + 1) lines ≡ Err fault → HasBad forms text fault.line fault.reason)
+        → HasBad forms text fault.line fault.reason
+    by (Err reason) e k ih =
+        let found : record { line = length before + 1; reason = told lines reason } ≡ fault = cc in
+        subst (λ (f : Fault). HasBad forms text f.line f.reason) found (inl (bad reason e))
+    by (Ok next) e k ih = ih next e k
+
+-- a fault is that of the first bad line
+pub bad-told : (forms : Forms) (text : List ℕ) (fault : Fault) → read_whole forms text ≡ Err fault → HasBad forms text fault.line fault.reason
+bad-told forms text fault h = faulty forms text fault [] (text_lines text) nothing_said refl refl h
+
+abbrev fault_of : ℕ → Reason → Fault
+fault_of number reason = record { line = number; reason = reason }
+
+-- and what has a bad line gives its fault
+pub bad-fault : (forms : Forms) (text : List ℕ) (number : ℕ) (reason : Reason) → HasBad forms text number reason → read_whole forms text ≡ Err (fault_of number reason)
+bad-fault forms text number reason (inl bad) =
+    ap (read_on forms nothing_said 0) bad.spelled ∙ on-behind forms 0 nothing_said bad.so bad.before (bad.bad ∷ bad.rest) bad.said ∙ ap (λ (n : ℕ). read_on forms bad.so n (bad.bad ∷ bad.rest)) (bare (length bad.before)) ∙ off (length bad.before) refl
+  where
+    off : (count : ℕ) → count ≡ length bad.before → read_on forms bad.so count (bad.bad ∷ bad.rest) ≡ Err (fault_of number reason)
+    off count e =
+        let at : step forms (count + 1) bad.so bad.bad ≡ Err bad.first = subst (λ (n : ℕ). step forms (n + 1) bad.so bad.bad ≡ Err bad.first) (sym e) (first-refused forms (length bad.before + 1) bad.so bad.bad bad.first bad.shown bad.is_first) in
+        let place : count + 1 ≡ number = ap (λ (n : ℕ). n + 1) e ∙ sym bad.place in
+        let here : read_on forms bad.so count (bad.bad ∷ bad.rest) ≡ Err (fault_of (count + 1) (told bad.rest bad.first)) = rw (at, read_on) refl in
+        here ∙ ap (λ (n : ℕ). Err (fault_of n (told bad.rest bad.first))) place ∙ ap (λ (r : Reason). Err (fault_of number r)) (sym bad.reason_told)
+bad-fault forms text number reason (inr early) = all (text_lines text) refl early.said
+  where
+    close : (count : ℕ) → read_on forms early.last count [] ≡ Err (fault_of (max 1 count) NoEnd)
+    close count = rw early.early refl
+
+    all : (lines : List (List ℕ)) → lines ≡ text_lines text → SaysAll forms 0 nothing_said lines early.last → read_on forms nothing_said 0 lines ≡ Err (fault_of number reason)
+    all lines same said =
+        let place : max 1 (length lines) ≡ number = ap (λ (ls : List (List ℕ)). max 1 (length ls)) same ∙ sym early.place in
+        ap (read_on forms nothing_said 0) (sym (append-nil lines)) ∙ on-behind forms 0 nothing_said early.last lines [] said ∙ ap (λ (n : ℕ). read_on forms early.last n []) (bare (length lines)) ∙ close (length lines)
+        ∙ ap (λ (n : ℕ). Err (fault_of n NoEnd)) place ∙ ap (λ (r : Reason). Err (fault_of number r)) (sym early.no_end)
+
+-- one fault is at one line for one reason
+same-fault : (number number' : ℕ) (reason reason' : Reason) → ◌≡◌ {A = Result SoFar Fault} (Err (fault_of number reason)) (Err (fault_of number' reason')) → (number ≡ number') × (reason ≡ reason')
+same-fault number number' reason reason' h = let same : fault_of number reason ≡ fault_of number' reason' = cc in (ap (λ (f : Fault). f.line) same, ap (λ (f : Fault). f.reason) same)
+
+pub one_reading : OneReading
+one_reading forms text s s' choices choices' reads reads' =
+    let both : Ok reads.last ≡ Ok reads'.last = sym (spelled-read forms text s choices reads) ∙ spelled-read forms text s' choices' reads' in
+    let same : reads.last ≡ reads'.last = cc in
+    (reads.scenario ∙ ap scenario_of same ∙ sym reads'.scenario, reads.made ∙ ap (λ (so : SoFar). so.choices) same ∙ sym reads'.made)
+
+pub never_both : NeverBoth
+never_both forms text s choices number reason reads bad =
+    let clash : Ok reads.last ≡ Err (fault_of number reason) = sym (spelled-read forms text s choices reads) ∙ bad-fault forms text number reason bad in
+    cc
+
+pub one_fault : OneFault
+one_fault forms text number number' reason reason' bad bad' =
+    same-fault number number' reason reason' (sym (bad-fault forms text number reason bad) ∙ bad-fault forms text number' reason' bad')

@@ -1,49 +1,83 @@
 -- The canonical text of a scenario and its choices.
-use Rattle.std.specs.Prelude.{ℕ, ◌+◌, List, [], ◌∷◌, ◌++◌, codes, Option, Some, None, flat_map}
-use Rattle.std.specs.Fmt.{decimal}
+use Rattle.std.specs.Prelude.{◌≡◌, ◌≤◌, ℕ, ◌+◌, List, [], ◌∷◌, ◌++◌, length, map, codes, flat_map}
+use Rattle.std.specs.List.{AllByRecursion}
 use Rattle.xrf_base.specs.declared.items.Item.{Item}
-use Rattle.xrf_scenario.specs.Scenario.{Scen}
-use Rattle.xrf_scenario.specs.Spelling.{item_text, choice_text, blank}
-use Rattle.xrf_scenario.specs.declared.choice.Choice.{Choice}
+use Rattle.xrf_base.specs.declared.site.Site.TheVariants.{A, B}
+use Rattle.xrf_clt.specs.Kept.{Kept}
+use Rattle.xrf_forms.specs.LineText.{header_text, line_text}
+use Rattle.xrf_forms.specs.Spelling.{choice_text, HasLine}
+use Rattle.xrf_forms.specs.declared.choice.Choice.{Choice}
+use Rattle.xrf_forms.specs.declared.line.Line.TheVariants.{Record, Work, Plan, Choices, End}
+use Rattle.xrf_scenario.specs.Built.{AreAllowed}
+use Rattle.xrf_scenario.specs.Reading.{Reads}
+use Rattle.xrf_scenario.specs.Scenario.{Scen, IsScen, setting_lines, kept_text}
+use Rattle.xrf_scenario.specs.declared.built.Forms.{Forms}
+use Rattle.xrf_scenario.specs.Taking.{numbered}
+use Rattle.xrf_scenario.specs.declared.numbered.Numbered.{Numbered}
 
 -- a line with its line feed
 abbrev pub fed : List ℕ → List ℕ
 fed line = line ++ 10 ∷ []
 
--- every setting, at its value or its default: those before FILE, FILE, and those behind it
-abbrev pub first_settings : List ℕ
-first_settings =
-    fed (codes "XRF 1") ++ fed (codes "APPLID A CICSA") ++ fed (codes "APPLID B CICSB") ++ fed (codes "TAKEOVR MANUAL")
-    ++ fed (codes "ADI 30") ++ fed (codes "PDI 30") ++ fed (codes "LOG 64") ++ fed (codes "RING 16")
+-- lines with their line feeds, one after the other
+abbrev pub text_of : List (List ℕ) → List ℕ
+text_of lines = flat_map fed lines
 
-abbrev pub last_settings : List ℕ
-last_settings = fed (codes "PACE 40") ++ fed (codes "TICKS 60") ++ fed (codes "IMAGES OFF")
+-- the parts of a scenario, as lines
+abbrev pub records_said : List (ℕ × List ℕ) → List (List ℕ)
+records_said records = map (λ (r : ℕ × List ℕ). line_text (Record r.0 r.1)) records
 
-abbrev pub settings_text : ℕ → List ℕ
-settings_text file = first_settings ++ fed (codes "FILE " ++ decimal file) ++ last_settings
+abbrev pub clt_said : List Kept → List (List ℕ)
+clt_said clt = map (λ (k : Kept). codes "CLT " ++ kept_text k) clt
 
-abbrev pub record_text : ℕ → List ℕ → List ℕ
-record_text number value = fed (codes "RECORD " ++ decimal number ++ blank value)
+abbrev pub plan_said : List (ℕ × Choice) → List (List ℕ)
+plan_said plan = map (λ (p : ℕ × Choice). line_text (Plan p.0 p.1)) plan
 
--- the records by number, from the number of the first place on
-abbrev pub records_text : ℕ → List (Option (List ℕ)) → List ℕ
-records_text number [] = []
-records_text number (None ∷ places) = records_text (number + 1) places
-records_text number (Some value ∷ places) = record_text number value ++ records_text (number + 1) places
+-- The header; every setting; the records by number; the command list; the work of A, then that of
+-- B; the plan.
+abbrev pub scenario_lines : Scen → List (List ℕ)
+scenario_lines s =
+    header_text s.settings.format ∷ map line_text (setting_lines s.settings)
+    ++ records_said s.records
+    ++ clt_said s.clt
+    ++ map (λ (i : Item). line_text (Work A i)) s.work_a
+    ++ map (λ (i : Item). line_text (Work B i)) s.work_b
+    ++ plan_said s.plan
 
-abbrev pub work_text : List Item → List ℕ
-work_text items = flat_map (λ item. fed (codes "WORK A " ++ item_text item)) items
-
--- one line a choice, without counts
-abbrev pub choices_text : List Choice → List ℕ
-choices_text choices = flat_map (λ choice. fed (choice_text choice)) choices
-
--- what stands before CHOICES, and from it on
-abbrev pub scenario_text : Scen → List ℕ
-scenario_text s = settings_text s.file ++ records_text 1 s.records ++ work_text s.work
-
-abbrev pub made_text : List Choice → List ℕ
-made_text choices = fed (codes "CHOICES") ++ choices_text choices ++ fed (codes "END")
+-- CHOICES, one line for each choice, without counts, and END
+abbrev pub choice_lines : List Choice → List (List ℕ)
+choice_lines choices = line_text Choices ∷ map choice_text choices ++ line_text End ∷ []
 
 abbrev pub canon : Scen → List Choice → List ℕ
-canon s choices = scenario_text s ++ made_text choices
+canon s choices = text_of (scenario_lines s) ++ text_of (choice_lines choices)
+
+-- the choices, each at the number of its line, from a number on
+abbrev pub numbered_from : ℕ → List Choice → List Numbered
+numbered_from number [] = []
+numbered_from number (choice ∷ choices) = numbered number choice ∷ numbered_from (number + 1) choices
+
+-- the choices at their lines in the canonical text
+abbrev pub at_lines : Scen → List Choice → List Numbered
+at_lines s choices = numbered_from (length (scenario_lines s) + 2) choices
+
+-- lines that may stand behind END: each begins with `*` (byte 42), and has no line feed and no
+-- carriage return
+pub record IsReportLine (line : List ℕ) : Type 0 where
+  pub rest : List ℕ
+  pub marked : line ≡ 42 ∷ rest
+  pub bytes : AllByRecursion (λ (b : ℕ). 32 ≤ b) rest
+
+pub record IsReport (text : List ℕ) : Type 0 where
+  pub lines : List (List ℕ)
+  pub each : AllByRecursion IsReportLine lines
+  pub fed : text ≡ text_of lines
+
+-- choices that a text can hold
+pub record AreChoices (choices : List Choice) : Type 0 where
+  pub each : AllByRecursion HasLine choices
+  pub few : length choices ≤ 8192
+
+-- What is written of a scenario and its choices is read again as the same, also with a report behind it.
+abbrev pub ReadAgain : Type 0
+ReadAgain = (forms : Forms) (s : Scen) (choices : List Choice) (report : List ℕ) → IsScen s → AreChoices choices → AreAllowed forms s choices → IsReport report
+    → Reads forms (canon s choices ++ report) s (at_lines s choices)

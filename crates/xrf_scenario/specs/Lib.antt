@@ -1,11 +1,12 @@
 pub mod Lines
-pub mod Numbers
-pub mod Spelling
-pub mod Shapes
+pub mod SoFar
+pub mod Taking
 pub mod Work
 pub mod Scenario
+pub mod Built
+pub mod Reasons
 pub mod Reading
-pub mod Machine
 pub mod Said
+pub mod Machine
+pub mod Held
 pub mod Canonical
-pub mod Pieces

@@ -1,12 +1,46 @@
--- The lines of a text.
-use Rattle.std.specs.Prelude.{ℕ, ◌==◌, List, [], ◌∷◌, if◌then◌else◌}
+-- The lines of a scenario text, and which of them are skipped.
+use Rattle.std.specs.Prelude.{ℕ, Bool, true, false, ◌==◌, ◌&&◌, ◌||◌, not, nat_le, nat_lt, List, [], ◌∷◌, length, Option, Some, None, if◌then◌else◌}
+use Rattle.std.specs.List.{list_all}
+use Rattle.xrf_forms.specs.declared.reason.Reason.{Reason}
+use Rattle.xrf_forms.specs.declared.reason.Reason.TheVariants.{BadByte, LongLine}
+use Rattle.xrf_text.specs.Text.{lines, words}
 
--- a byte put before the first line
-abbrev pub before_first_line : ℕ → List (List ℕ) → List (List ℕ)
-before_first_line byte [] = (byte ∷ []) ∷ []
-before_first_line byte (line ∷ lines) = (byte ∷ line) ∷ lines
+-- A carriage return (byte 13) before a line feed (byte 10) is dropped.
+abbrev pub without_returns : List ℕ → List ℕ
+without_returns [] = []
+without_returns (byte ∷ []) = byte ∷ []
+without_returns (byte ∷ next ∷ more) = if byte == 13 && next == 10 then without_returns (next ∷ more) else byte ∷ without_returns (next ∷ more)
 
--- A line ends at a line feed (byte 10) or at the end of the text. No line begins at the end of the text.
-abbrev pub lines_of : List ℕ → List (List ℕ)
-lines_of [] = []
-lines_of (byte ∷ bytes) = if byte == 10 then [] ∷ lines_of bytes else before_first_line byte (lines_of bytes)
+-- a line without a carriage return at its end
+abbrev pub without_return : List ℕ → List ℕ
+without_return [] = []
+without_return (byte ∷ []) = if byte == 13 then [] else byte ∷ []
+without_return (byte ∷ next ∷ more) = byte ∷ without_return (next ∷ more)
+
+-- A line ends at a line feed or at the end of the text, and no line begins at the end of the text.
+abbrev pub text_lines : List ℕ → List (List ℕ)
+text_lines text = lines (without_returns text)
+
+abbrev pub begins_with : ℕ → List ℕ → Bool
+begins_with mark [] = false
+begins_with mark (byte ∷ bytes) = byte == mark
+
+abbrev pub are_none : List (List ℕ) → Bool
+are_none [] = true
+are_none (word ∷ ws) = false
+
+-- Blank lines and lines whose first character is `#` (byte 35) are skipped.
+abbrev pub is_skipped : List ℕ → Bool
+is_skipped line = begins_with 35 line || are_none (words line)
+
+-- Behind END lines may come whose first character is `*` (byte 42).
+abbrev pub is_report : List ℕ → Bool
+is_report line = begins_with 42 line
+
+-- blank to `~`
+abbrev pub is_text_byte : ℕ → Bool
+is_text_byte byte = nat_le 32 byte && nat_le byte 126
+
+-- what is wrong with the bytes of a line
+abbrev pub bytes_fault : List ℕ → Option Reason
+bytes_fault line = if not (list_all is_text_byte line) then Some BadByte else if nat_lt 300 (length line) then Some LongLine else None

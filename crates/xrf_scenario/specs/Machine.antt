@@ -1,28 +1,59 @@
 -- Reading as it goes on from what is said so far.
-use Rattle.std.specs.Prelude.{ℕ, ◌+◌, max, List, [], ◌∷◌, Option, Some, None, if◌then◌else◌, Result, Ok, Err}
-use Rattle.std.specs.Option.{option_and_then}
-use Rattle.xrf_scenario.specs.Lines.{lines_of}
-use Rattle.xrf_scenario.specs.Shapes.{line_of}
-use Rattle.xrf_scenario.specs.Reading.{SoFar, nothing_said, fits, after, is_whole}
-use Rattle.xrf_scenario.specs.declared.line.Line.{Line}
-use Rattle.xrf_scenario.specs.declared.reason.Fault.{Fault}
-use Rattle.xrf_scenario.specs.declared.reason.Reason.TheVariants.{NotBuilt, NoEnd}
+use Rattle.std.specs.Prelude.{ℕ, ◌+◌, max, Bool, true, false, List, [], ◌∷◌, Some, None, Result, Ok, Err, if◌then◌else◌}
+use Rattle.xrf_text.specs.Text.{words}
+use Rattle.xrf_forms.specs.Reading.{header_of, line_of}
+use Rattle.xrf_forms.specs.Table.{settings_of, choices_table}
+use Rattle.xrf_forms.specs.declared.form.Format.{Format}
+use Rattle.xrf_forms.specs.declared.line.Line.{Line}
+use Rattle.xrf_forms.specs.declared.reason.Reason.{Reason}
+use Rattle.xrf_forms.specs.declared.reason.Reason.TheVariants.{AfterEnd, NoEnd, NotBuilt}
+use Rattle.xrf_scenario.specs.Built.{allows, allows_format}
+use Rattle.xrf_scenario.specs.Lines.{text_lines, is_skipped, is_report, bytes_fault}
+use Rattle.xrf_scenario.specs.Reading.{begun, told}
+use Rattle.xrf_scenario.specs.SoFar.{SoFar, nothing_said, is_whole}
+use Rattle.xrf_scenario.specs.Taking.{take}
+use Rattle.xrf_scenario.specs.declared.built.Forms.{Forms}
+use Rattle.xrf_scenario.specs.declared.given.Part.{Part}
+use Rattle.xrf_scenario.specs.declared.given.Part.TheVariants.{Start, Settings, Making, Whole}
 
--- the line that a text spells, where it may come next
-abbrev pub fitting : SoFar → List ℕ → Option Line
-fitting so text = option_and_then (λ line. if fits so line then Some line else None) (line_of text)
+-- what is not built comes behind all other reasons
+abbrev pub if_built : Bool → Result SoFar Reason → Result SoFar Reason
+if_built true said = said
+if_built false (Ok next) = Err NotBuilt
+if_built false (Err reason) = Err reason
 
-abbrev pub fault_at : ℕ → Fault
-fault_at number = record { line = number; reason = NotBuilt }
+abbrev pub take_line : Forms → ℕ → SoFar → List (List ℕ) → Result Line Reason → Result SoFar Reason
+take_line forms number so ws (Ok line) = if_built (allows forms so line) (take number so ws line)
+take_line forms number so ws (Err reason) = Err reason
 
--- the fault of the last line, or of line 1 where there is none
-abbrev pub early_fault : ℕ → Fault
-early_fault number = record { line = max 1 number; reason = NoEnd }
+abbrev pub take_header : Forms → SoFar → Result Format Reason → Result SoFar Reason
+take_header forms so (Ok format) = if_built (allows_format forms format) (Ok (begun so format))
+take_header forms so (Err reason) = Err reason
+
+-- what is said once some words have come, or the first reason for which they may not
+abbrev pub take_words : Part → Forms → ℕ → SoFar → List (List ℕ) → Result SoFar Reason
+take_words Start forms number so ws = take_header forms so (header_of ws)
+take_words Settings forms number so ws = take_line forms number so ws (line_of (settings_of so.format) ws)
+take_words Making forms number so ws = take_line forms number so ws (line_of choices_table ws)
+take_words Whole forms number so ws = Err AfterEnd
+
+-- What is said once a line has come, or the first reason, in the order of the reasons, for which it
+-- may not come. Nothing is tested in a line that is skipped, and nothing but `*` behind END.
+abbrev pub step : Forms → ℕ → SoFar → List ℕ → Result SoFar Reason
+step forms number so line =
+    if is_skipped line then Ok so
+    else if is_whole so.part then (if is_report line then Ok so else Err AfterEnd)
+    else elim (bytes_fault line) [ Some reason ↦ Err reason | None ↦ take_words so.part forms number so (words line) ]
+
+-- the number of a line and the reason for which it is bad
+pub record Fault : Type 0 where
+  pub line : ℕ
+  pub reason : Reason
 
 -- what the lines that are left make of what is said behind a number of lines
-abbrev pub read_on : SoFar → ℕ → List (List ℕ) → Result SoFar Fault
-read_on so number [] = if is_whole so.part then Ok so else Err (early_fault number)
-read_on so number (text ∷ texts) = elim (fitting so text) [ None ↦ Err (fault_at (number + 1)) | Some line ↦ read_on (after (number + 1) so line) (number + 1) texts ]
+abbrev pub read_on : Forms → SoFar → ℕ → List (List ℕ) → Result SoFar Fault
+read_on forms so count [] = if is_whole so.part then Ok so else Err (record { line = max 1 count; reason = NoEnd })
+read_on forms so count (line ∷ lines) = elim (step forms (count + 1) so line) [ Err reason ↦ Err (record { line = count + 1; reason = told lines reason }) | Ok next ↦ read_on forms next (count + 1) lines ]
 
-abbrev pub read_whole : List ℕ → Result SoFar Fault
-read_whole text = read_on nothing_said 0 (lines_of text)
+abbrev pub read_whole : Forms → List ℕ → Result SoFar Fault
+read_whole forms text = read_on forms nothing_said 0 (text_lines text)

@@ -1,34 +1,70 @@
--- What a reading holds, as what is said so far.
-use Rattle.std.specs.Prelude.{◌≡◌, ℕ, ◌≤◌, true, List, length, drop, is_none, IfSome, Result, Ok, Err}
-use Rattle.std.specs.List.{AllByRecursion, list_all}
+-- What the lines of a text keep of what is said.
+use Rattle.std.specs.Prelude.{◌≡◌, ◌≤◌, ℕ, Bool, true, false, List, [], length, None, IfSome}
+use Rattle.std.specs.List.{AllByRecursion}
 use Rattle.xrf_base.specs.Values.{IsValue}
-use Rattle.xrf_scenario.specs.Work.{is_work}
-use Rattle.xrf_scenario.specs.Reading.{SoFar, file_said, is_past_choices, HasBad}
-use Rattle.xrf_scenario.specs.declared.reading.Reading.{Reading}
-use Rattle.xrf_scenario.specs.declared.reason.Fault.{Fault}
-use Rattle.xrf_scenario.specs.declared.reason.ReadBad.{ReadBad}
-use Rattle.xrf_scenario.specs.declared.reason.ReadBad.TheVariants.{Bad, NoMemory}
+use Rattle.xrf_base.specs.declared.site.Site.TheVariants.{A, B}
+use Rattle.xrf_clt.specs.Lines.{fault_of, words_kept}
+use Rattle.xrf_forms.specs.LineText.{IsSetting, IsChoosing, IsItemOf}
+use Rattle.xrf_forms.specs.Places.{behind}
+use Rattle.xrf_forms.specs.Spelling.{HasLine}
+use Rattle.xrf_forms.specs.declared.form.Format.{Format}
+use Rattle.xrf_forms.specs.declared.line.Line.{Line}
+use Rattle.xrf_forms.specs.declared.line.Line.TheVariants.{Applid, Adi, Pdi, Log, Ring, File, Pace, Ticks, Level, Xrfsoff, Clt, Once, Times, End}
+use Rattle.xrf_scenario.specs.Scenario.{ArePlanned, IsKept}
+use Rattle.xrf_scenario.specs.SoFar.{SoFar, nothing_given}
+use Rattle.xrf_scenario.specs.Taking.{are_within}
+use Rattle.xrf_scenario.specs.declared.given.Given.{Given}
+use Rattle.xrf_scenario.specs.declared.given.Part.{Part}
+use Rattle.xrf_scenario.specs.declared.given.Part.TheVariants.{Start, Making, Whole}
+use Rattle.xrf_scenario.specs.declared.numbered.Numbered.{Numbered}
 
-abbrev pub said : Reading → SoFar
-said r = record { part = r.part; file = r.file; records = r.records.items; work = r.work.items; choices = r.choices.items }
+-- what is known of a line that some words spell
+abbrev pub IsLineSaid : Format → List (List ℕ) → Line → Type 0
+IsLineSaid format ws Clt = (fault_of (behind ws) ≡ None) × IsKept (words_kept (behind ws))
+IsLineSaid format ws (Once choice) = IsChoosing (Once choice)
+IsLineSaid format ws (Times choice count) = IsChoosing (Times choice count)
+IsLineSaid format ws End = IsChoosing End
+IsLineSaid format ws line = IsSetting format line
 
--- What lines that fit keep of what is said.
+-- CHOICES has come
+abbrev pub is_past : Part → Bool
+is_past Making = true
+is_past Whole = true
+is_past _ = false
+
+-- settings within their ranges
+pub record IsGiven (format : Format) (given : Given) : Type 0 where
+  pub applid_a : IfSome given.applid_a (λ name. IsSetting format (Applid A name))
+  pub applid_b : IfSome given.applid_b (λ name. IsSetting format (Applid B name))
+  pub adi : IfSome given.adi (λ n. IsSetting format (Adi n))
+  pub pdi : IfSome given.pdi (λ n. IsSetting format (Pdi n))
+  pub log : IfSome given.log (λ n. IsSetting format (Log n))
+  pub ring : IfSome given.ring (λ n. IsSetting format (Ring n))
+  pub file : IfSome given.file (λ n. IsSetting format (File n))
+  pub pace : IfSome given.pace (λ n. IsSetting format (Pace n))
+  pub ticks : IfSome given.ticks (λ n. IsSetting format (Ticks n))
+  pub level_a : IfSome given.level_a (λ n. IsSetting format (Level A n))
+  pub level_b : IfSome given.level_b (λ n. IsSetting format (Level B n))
+  pub force : IfSome given.force (λ force. IsSetting format (Xrfsoff force))
+
+-- before the header nothing is said
+abbrev pub IsFresh : Part → SoFar → Type 0
+IsFresh Start so = (so.given ≡ nothing_given) × (so.work_a ≡ []) × (so.work_b ≡ [])
+IsFresh _ so = Unit {0}
+
 pub record IsSaid (so : SoFar) : Type 0 where
-  pub file : IfSome so.file (λ n. (1 ≤ n) × (n ≤ 256))
+  pub fresh : IsFresh so.part so
+  pub given : IsGiven so.format so.given
   pub places : length so.records ≡ 256
   pub values : AllByRecursion (λ place. IfSome place IsValue) so.records
-  pub work : is_work so.work ≡ true
-  pub items : length so.work ≤ 62
-  pub choices : length so.choices ≤ 8192
-  pub within : is_past_choices so.part ≡ true → list_all is_none (drop (file_said so) so.records) ≡ true
-
--- A reading that was read to the end, or a fault, is what reading the text gives, unless memory ran out.
-abbrev pub Gives : Result Reading ReadBad → Result SoFar Fault → Type 0
-Gives (Ok r) read = read ≡ Ok (said r)
-Gives (Err NoMemory) read = Unit {0}
-Gives (Err (Bad fault)) read = read ≡ Err fault
-
--- An answer that is no reading says which line is bad first and why, or that memory ran out.
-abbrev pub IsBad : List ℕ → ReadBad → Type 0
-IsBad text NoMemory = Unit {0}
-IsBad text (Bad fault) = HasBad text fault.line fault.reason
+  pub clt : AllByRecursion IsKept so.clt
+  pub clt_few : length so.clt ≤ 100
+  pub work_a : AllByRecursion (IsItemOf so.format) so.work_a
+  pub work_a_few : length so.work_a ≤ 2000
+  pub work_b : AllByRecursion (IsItemOf so.format) so.work_b
+  pub work_b_few : length so.work_b ≤ 2000
+  pub plan : ArePlanned 0 so.plan
+  pub plan_few : length so.plan ≤ 500
+  pub choices : AllByRecursion (λ (n : Numbered). HasLine n.choice) so.choices
+  pub choices_few : length so.choices ≤ 8192
+  pub within : is_past so.part ≡ true → are_within so ≡ true

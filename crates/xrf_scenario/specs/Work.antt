@@ -13,6 +13,11 @@ is_unit_rest unit (Put name number value ∷ items) = pointwise nat_eq name unit
 is_unit_rest unit (Commit name ∷ []) = pointwise nat_eq name unit
 is_unit_rest unit (_ ∷ items) = false
 
+-- a PUT of the unit
+abbrev pub is_put_of : List ℕ → Item → Bool
+is_put_of unit (Put name number value) = pointwise nat_eq name unit && nat_le number 65535 && is_value value
+is_put_of unit _ = false
+
 -- no work, or one unit
 abbrev pub is_work : List Item → Bool
 is_work [] = true

@@ -1,210 +1,204 @@
 //! The canonical text of a scenario and its choices.
 
-ghost use Rattle.std.specs.Prelude.{◌≡◌, ◌++◌, ◌≤◌, ◌+◌, OnOk, IfOk, length, Some, codes};
-ghost use Rattle.xrf_scenario.specs.Canonical.{canon, fed, first_settings, last_settings, settings_text, scenario_text, made_text, record_text, records_text, work_text, choices_text};
-ghost use Rattle.std.specs.Fmt.{decimal};
-ghost use Rattle.xrf_scenario.specs.Spelling.{item_text, choice_text};
+ghost use Rattle.std.specs.Prelude.{◌≡◌, ◌++◌, ◌∷◌, [], ℕ, OnOk, IfOk, map, codes};
+ghost use Rattle.xrf_base.specs.declared.items.Item.{Item};
+ghost use Rattle.xrf_clt.specs.Kept.{Kept};
+ghost use Rattle.xrf_forms.specs.LineText.{header_text, line_text};
+ghost use Rattle.xrf_forms.specs.Spelling.{choice_text};
+ghost use Rattle.xrf_forms.specs.declared.choice.Choice.{Choice};
+ghost use Rattle.xrf_forms.specs.declared.line.Line.TheVariants.{Work, Plan};
+ghost use Rattle.xrf_scenario.specs.Canonical.{fed, text_of, records_said, clt_said, plan_said, scenario_lines, choice_lines, canon, ReadAgain};
+ghost use Rattle.xrf_scenario.specs.Scenario.{IsScen, setting_lines, level_lines, kept_text};
 
-use crate::choice::Choice;
-use crate::pieces::{Piece, put};
 use crate::scenario::Scenario;
-use Piece::{Number, Text};
+use crate::settings::Settings;
 use std::alloc::{AllocError, Global};
-use xrf_base::{Item, Name8, Value};
+use xrf_base::{Item, Site, Tick, Value};
+use xrf_clt::Clt;
+use xrf_forms::writing::Piece::{Number, Text};
+use xrf_forms::writing::put;
+use xrf_forms::{Choice, Format, Line, put_choice, put_header, put_line};
 
-fn put_first_settings(alloc: Global, out: &mut Vec<u8>) -> Result<(), AllocError>
-    ensures { OnOk result (out.new.items ≡ out.old.items ++ first_settings) }
+fn put_feed(out: &mut Vec<u8>) -> Result<(), AllocError>
+    ensures { OnOk result (out.new.items ≡ out.old.items ++ 10 ∷ []) }
 {
-    put(
+    out.push(b'\n')?;
+    Ok(())
+}
+
+fn put_fed(alloc: Global, out: &mut Vec<u8>, line: &Line) -> Result<(), AllocError>
+    ensures { OnOk result (out.new.items ≡ out.old.items ++ fed (line_text line.now)) }
+{
+    put_line(alloc, out, line)?;
+    put_feed(out)
+}
+
+fn put_lines(alloc: Global, out: &mut Vec<u8>, lines: &[Line]) -> Result<(), AllocError>
+    ensures { OnOk result (out.new.items ≡ out.old.items ++ text_of (map line_text lines.now)) }
+{
+    for line in lines {
+        put_fed(alloc, out, line)?;
+    }
+    Ok(())
+}
+
+fn put_levels(alloc: Global, out: &mut Vec<u8>, settings: &Settings) -> Result<(), AllocError>
+    ensures { OnOk result (out.new.items ≡ out.old.items ++ text_of (map line_text (level_lines settings.now.format settings.now))) }
+{
+    match settings.format {
+        Format::One => Ok(()),
+        Format::Two => put_lines(
+            alloc,
+            out,
+            &[
+                Line::Level(Site::A, settings.level_a),
+                Line::Level(Site::B, settings.level_b),
+                Line::Xrfsoff(settings.force),
+            ],
+        ),
+    }
+}
+
+fn put_settings(alloc: Global, out: &mut Vec<u8>, settings: &Settings) -> Result<(), AllocError>
+    ensures { OnOk result (out.new.items ≡ out.old.items ++ text_of (map line_text (setting_lines settings.now))) }
+{
+    put_lines(
         alloc,
         out,
-        &[Text(
-            b"XRF 1\nAPPLID A CICSA\nAPPLID B CICSB\nTAKEOVR MANUAL\nADI 30\nPDI 30\nLOG 64\nRING 16\n",
-        )],
-    )
+        &[
+            Line::Applid(Site::A, settings.applid_a),
+            Line::Applid(Site::B, settings.applid_b),
+            Line::Takeovr(settings.takeovr),
+            Line::Adi(settings.adi),
+            Line::Pdi(settings.pdi),
+            Line::Log(settings.log),
+            Line::Ring(settings.ring),
+            Line::File(settings.file),
+            Line::Pace(settings.pace),
+            Line::Ticks(settings.ticks),
+            Line::Images(settings.images),
+        ],
+    )?;
+    put_levels(alloc, out, settings)
 }
 
-fn put_last_settings(alloc: Global, out: &mut Vec<u8>) -> Result<(), AllocError>
-    ensures { OnOk result (out.new.items ≡ out.old.items ++ last_settings) }
+fn put_records(alloc: Global, out: &mut Vec<u8>, records: &[(u16, Value)]) -> Result<(), AllocError>
+    ensures { OnOk result (out.new.items ≡ out.old.items ++ text_of (records_said records.now)) }
 {
-    put(alloc, out, &[Text(b"PACE 40\nTICKS 60\nIMAGES OFF\n")])
+    for (number, value) in records {
+        put_fed(alloc, out, &Line::Record(*number, *value))?;
+    }
+    Ok(())
 }
 
-fn put_file(alloc: Global, out: &mut Vec<u8>, file: u16) -> Result<(), AllocError>
-    ensures { OnOk result (out.new.items ≡ out.old.items ++ fed (codes "FILE " ++ decimal file)) }
-{
-    put(
-        alloc,
-        out,
-        &[Text(b"FILE "), Number(file as u64), Text(b"\n")],
-    )
-}
-
-fn put_settings(alloc: Global, out: &mut Vec<u8>, file: u16) -> Result<(), AllocError>
-    ensures { OnOk result (out.new.items ≡ out.old.items ++ settings_text file) }
-{
-    put_first_settings(alloc, out)?;
-    put_file(alloc, out, file)?;
-    put_last_settings(alloc, out)
-}
-
-fn put_record(
+fn put_command<'a>(
     alloc: Global,
     out: &mut Vec<u8>,
-    number: u16,
-    value: &Value,
+    applid: &'a [u8],
+    text: &'a [u8],
 ) -> Result<(), AllocError>
-    ensures { OnOk result (out.new.items ≡ out.old.items ++ record_text number value.now) }
+    ensures { OnOk result (out.new.items ≡ out.old.items ++ fed (codes "CLT " ++ kept_text (record { applid = applid.now; text = text.now }))) }
 {
     put(
         alloc,
         out,
         &[
-            Text(b"RECORD "),
-            Number(number as u64),
+            Text(b"CLT "),
+            Text(applid),
             Text(b" "),
-            Text(value.text()),
+            Text(text),
             Text(b"\n"),
         ],
     )
 }
 
-fn put_records(
-    alloc: Global,
-    out: &mut Vec<u8>,
-    records: &[Option<Value>],
-) -> Result<(), AllocError>
-    requires { length records.now ≤ 256 }
-    ensures { OnOk result (out.new.items ≡ out.old.items ++ records_text 1 records.now) }
+fn put_clt(alloc: Global, out: &mut Vec<u8>, clt: &Clt) -> Result<(), AllocError>
+    ensures { OnOk result (out.new.items ≡ out.old.items ++ text_of (clt_said clt.now)) }
 {
-    let mut number = 1u16;
-    for place in records {
-        if let Some(value) = place {
-            put_record(alloc, out, number, value)?;
-        }
-        number += 1;
+    for place in 0..clt.count() {
+        let (applid, text) = clt.line(place);
+        put_command(alloc, out, applid.text(), text)?;
     }
     Ok(())
 }
 
-fn put_unit_item(
-    alloc: Global,
-    out: &mut Vec<u8>,
-    word: &[u8],
-    name: &Name8,
-) -> Result<(), AllocError>
-    ensures { OnOk result (out.new.items ≡ out.old.items ++ word.now ++ name.now) }
-{
-    put(alloc, out, &[Text(word), Text(name.text())])
-}
-
-fn put_item(alloc: Global, out: &mut Vec<u8>, item: &Item) -> Result<(), AllocError>
-    ensures { OnOk result (out.new.items ≡ out.old.items ++ item_text item.now) }
-{
-    match item {
-        Item::Begin(unit) => put_unit_item(alloc, out, b"BEGIN ", unit),
-        Item::Put(unit, number, value) => put(
-            alloc,
-            out,
-            &[
-                Text(b"PUT "),
-                Text(unit.text()),
-                Text(b" "),
-                Number(*number as u64),
-                Text(b" "),
-                Text(value.text()),
-            ],
-        ),
-        Item::Get(unit, number) => put(
-            alloc,
-            out,
-            &[
-                Text(b"GET "),
-                Text(unit.text()),
-                Text(b" "),
-                Number(*number as u64),
-            ],
-        ),
-        Item::Commit(unit) => put_unit_item(alloc, out, b"COMMIT ", unit),
-        Item::Roll(unit) => put_unit_item(alloc, out, b"ROLL ", unit),
-        Item::Logon(terminal, class) => put(
-            alloc,
-            out,
-            &[
-                Text(b"LOGON "),
-                Text(terminal.text()),
-                Text(b" "),
-                Number(*class as u64),
-            ],
-        ),
-        Item::Logoff(terminal) => put_unit_item(alloc, out, b"LOGOFF ", terminal),
-        Item::Shutdown => put(alloc, out, &[Text(b"CEMT SHUTDOWN")]),
-        Item::ShutdownTakeover => put(alloc, out, &[Text(b"CEMT SHUTDOWN TAKEOVER")]),
-        Item::Signon(terminal, user) => put(
-            alloc,
-            out,
-            &[
-                Text(b"SIGNON "),
-                Text(terminal.text()),
-                Text(b" "),
-                Text(user.text()),
-            ],
-        ),
-        Item::Signoff(terminal) => put_unit_item(alloc, out, b"SIGNOFF ", terminal),
-    }
-}
-
-fn put_work_line(alloc: Global, out: &mut Vec<u8>, item: &Item) -> Result<(), AllocError>
-    ensures { OnOk result (out.new.items ≡ out.old.items ++ fed (codes "WORK A " ++ item_text item.now)) }
-{
-    put(alloc, out, &[Text(b"WORK A ")])?;
-    put_item(alloc, out, item)?;
-    put(alloc, out, &[Text(b"\n")])
-}
-
-fn put_work(alloc: Global, out: &mut Vec<u8>, work: &[Item]) -> Result<(), AllocError>
-    ensures { OnOk result (out.new.items ≡ out.old.items ++ work_text work.now) }
+fn put_work(alloc: Global, out: &mut Vec<u8>, site: Site, work: &[Item]) -> Result<(), AllocError>
+    ensures { OnOk result (out.new.items ≡ out.old.items ++ text_of (map (λ (i : Item). line_text (Work site i)) work.now)) }
 {
     for item in work {
-        put_work_line(alloc, out, item)?;
+        put_fed(alloc, out, &Line::Work(site, *item))?;
     }
     Ok(())
 }
 
-fn put_choice_line(alloc: Global, out: &mut Vec<u8>, choice: Choice) -> Result<(), AllocError>
-    ensures { OnOk result (out.new.items ≡ out.old.items ++ fed (choice_text choice)) }
+fn put_planned(
+    alloc: Global,
+    out: &mut Vec<u8>,
+    tick: Tick,
+    choice: &Choice,
+) -> Result<(), AllocError>
+    ensures { OnOk result (out.new.items ≡ out.old.items ++ fed (line_text (Plan tick choice.now))) }
 {
-    match choice {
-        Choice::StartActive => put(alloc, out, &[Text(b"START A ACTIVE\n")]),
-        Choice::Step => put(alloc, out, &[Text(b"STEP A\n")]),
+    put(
+        alloc,
+        out,
+        &[Text(b"PLAN "), Number(tick as u64), Text(b" ")],
+    )?;
+    put_choice(alloc, out, choice)?;
+    put_feed(out)
+}
+
+fn put_plan(alloc: Global, out: &mut Vec<u8>, plan: &[(Tick, Choice)]) -> Result<(), AllocError>
+    ensures { OnOk result (out.new.items ≡ out.old.items ++ text_of (plan_said plan.now)) }
+{
+    for (tick, choice) in plan {
+        put_planned(alloc, out, *tick, choice)?;
     }
+    Ok(())
+}
+
+fn put_made(alloc: Global, out: &mut Vec<u8>, choice: &Choice) -> Result<(), AllocError>
+    ensures { OnOk result (out.new.items ≡ out.old.items ++ fed (choice_text choice.now)) }
+{
+    put_choice(alloc, out, choice)?;
+    put_feed(out)
 }
 
 fn put_choices(alloc: Global, out: &mut Vec<u8>, choices: &[Choice]) -> Result<(), AllocError>
-    ensures { OnOk result (out.new.items ≡ out.old.items ++ choices_text choices.now) }
+    ensures { OnOk result (out.new.items ≡ out.old.items ++ text_of (map choice_text choices.now)) }
 {
     for choice in choices {
-        put_choice_line(alloc, out, *choice)?;
+        put_made(alloc, out, choice)?;
     }
     Ok(())
 }
 
 /// Appends the lines of a scenario up to CHOICES.
 pub fn put_scenario(alloc: Global, out: &mut Vec<u8>, scenario: &Scenario) -> Result<(), AllocError>
-    ensures { OnOk result (out.new.items ≡ out.old.items ++ scenario_text scenario.now) }
+    ensures text { OnOk result (out.new.items ≡ out.old.items ++ text_of (scenario_lines scenario.now)) }
+    ensures scenario { IsScen scenario.now }
 {
-    put_settings(alloc, out, scenario.file())?;
+    put_header(alloc, out, scenario.format())?;
+    put_feed(out)?;
+    put_settings(alloc, out, scenario.settings())?;
     put_records(alloc, out, scenario.records())?;
-    put_work(alloc, out, scenario.work())
+    put_clt(alloc, out, scenario.clt())?;
+    put_work(alloc, out, Site::A, scenario.work(Site::A))?;
+    put_work(alloc, out, Site::B, scenario.work(Site::B))?;
+    put_plan(alloc, out, scenario.plan())
 }
 
 /// Appends the lines from CHOICES to END.
-pub fn put_made(alloc: Global, out: &mut Vec<u8>, choices: &[Choice]) -> Result<(), AllocError>
-    ensures { OnOk result (out.new.items ≡ out.old.items ++ made_text choices.now) }
+pub fn put_made_choices(
+    alloc: Global,
+    out: &mut Vec<u8>,
+    choices: &[Choice],
+) -> Result<(), AllocError>
+    ensures { OnOk result (out.new.items ≡ out.old.items ++ text_of (choice_lines choices.now)) }
 {
-    put(alloc, out, &[Text(b"CHOICES\n")])?;
+    put_fed(alloc, out, &Line::Choices)?;
     put_choices(alloc, out, choices)?;
-    put(alloc, out, &[Text(b"END\n")])
+    put_fed(alloc, out, &Line::End)
 }
 
 /// Appends the canonical text of a scenario and its choices, up to and with its line END.
@@ -214,10 +208,11 @@ pub fn put_canonical(
     scenario: &Scenario,
     choices: &[Choice],
 ) -> Result<(), AllocError>
-    ensures { OnOk result (out.new.items ≡ out.old.items ++ canon scenario.now choices.now) }
+    ensures text { OnOk result (out.new.items ≡ out.old.items ++ canon scenario.now choices.now) }
+    ensures scenario { IsScen scenario.now }
 {
     put_scenario(alloc, out, scenario)?;
-    put_made(alloc, out, choices)
+    put_made_choices(alloc, out, choices)
 }
 
 /// The canonical text of a scenario and its choices, up to and with its line END.
@@ -228,3 +223,9 @@ pub fn write(alloc: Global, scenario: &Scenario, choices: &[Choice]) -> Result<V
     put_canonical(alloc, &mut out, scenario, choices)?;
     Ok(out)
 }
+
+/// What is written of a scenario and choices that a text can hold is read again as these, also with
+/// a report behind it.
+pub fn read_again()
+    ensures { ReadAgain }
+{}

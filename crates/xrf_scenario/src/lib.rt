@@ -1,24 +1,34 @@
-//! The scenario text: what it says, how it is read and how it is written.
+//! The scenario: settings, first records, the command list, the work of both sites, a plan, and the
+//! choices of a run; and the text that spells them.
 #![tactic(auto)]
 
-pub mod canonical;
-pub mod choice;
-pub mod line;
+mod built;
+mod canonical;
+mod given;
 mod lines;
-mod number;
-pub mod pieces;
-pub mod reading;
-pub mod reason;
-pub mod scenario;
-mod shape;
-pub mod text;
+mod numbered;
+mod read_bad;
+mod reading;
+mod scenario;
+mod setting;
+mod settings;
+mod settled;
+mod stepping;
+mod stop;
+mod taking;
+mod text;
 mod work;
 
-pub use choice::Choice;
-pub use line::Line;
-pub use reason::{Fault, ReadBad, Reason};
-pub use scenario::{Numbered, Scenario};
-pub use text::read;
+pub use built::Forms;
+pub use canonical::{put_canonical, read_again, write};
+pub use numbered::Numbered;
+pub use read_bad::ReadBad;
+pub use scenario::Scenario;
+pub use settings::Settings;
+pub use text::{one_reading, read, read_forms};
+pub use xrf_forms::{Choice, Format, Landing, Reason, TornBytes};
 
+#[cfg(test)]
+mod line_tests;
 #[cfg(test)]
 mod tests;

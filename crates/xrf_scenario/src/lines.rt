@@ -1,11 +1,15 @@
-//! The lines of a text.
+//! The lines of a text, and which of them are skipped.
 
-ghost use Rattle.std.specs.Prelude.{◌≡◌, ◌==◌, ◌<◌, ◌∷◌, ◌≤◌, drop, length};
-ghost use Rattle.std.specs.List.{position};
-ghost use Rattle.xrf_scenario.specs.Lines.{lines_of};
+ghost use Rattle.std.specs.Prelude.{◌≡◌, ◌+◌, ◌<◌, ◌≤◌, ◌∷◌, [], length, drop, MatchOption, IfSome};
+ghost use Rattle.std.specs.List.{position, list_all};
+ghost use Rattle.xrf_text.specs.Text.{is_line_feed, words};
+ghost use Rattle.xrf_scenario.specs.Lines.{text_lines, without_return, begins_with, are_none, is_skipped, is_report, is_text_byte, bytes_fault};
+
+use xrf_forms::Reason;
+use xrf_text::split_word;
 
 fn first_feed(text: &[u8]) -> Option<usize>
-    ensures { result ≡ position (λ b. b == 10) text.now }
+    ensures { result ≡ position is_line_feed text.now }
 {
     text.iter().position(|b| *b == b'\n')
 }
@@ -17,14 +21,77 @@ fn behind(text: &[u8], count: usize) -> &[u8]
     &text[count..]
 }
 
-/// The first line of a text that has one, without its line feed, and the text behind it.
-pub fn first_line(text: &[u8]) -> (&[u8], &[u8])
-    requires { 0 < length text.now }
-    ensures lines { lines_of text.now ≡ result.0.now ∷ lines_of result.1.now }
-    ensures shorter { length result.1.now < length text.now }
+fn without_return(line: &[u8]) -> &[u8]
+    ensures { result.now ≡ without_return line.now }
 {
-    match first_feed(text) {
-        Some(count) => (&text[..count], behind(text, count + 1)),
-        None => (text, &[]),
+    match line {
+        [front @ .., last] => { if *last == b'\r' { front } else { line } }
+        [] => line,
     }
+}
+
+/// The first line of a text and what follows it, or none for the empty text. A line feed ends the
+/// line, with a carriage return before it.
+pub fn next_line(text: &[u8]) -> Option<(&[u8], &[u8])>
+    ensures first { MatchOption result (text.now ≡ []) (λ found. text_lines text.now ≡ found.0.now ∷ text_lines found.1.now) }
+    ensures shorter { IfSome result (λ found. length found.1.now < length text.now) }
+{
+    if text.is_empty() {
+        return None;
+    }
+    match first_feed(text) {
+        Some(count) => Some((without_return(&text[..count]), behind(text, count + 1))),
+        None => Some((text, &[])),
+    }
+}
+
+fn begins_with(mark: u8, line: &[u8]) -> bool
+    ensures { result ≡ begins_with mark line.now }
+{
+    match line {
+        [first, ..] => *first == mark,
+        [] => false,
+    }
+}
+
+fn has_no_word(line: &[u8]) -> bool
+    ensures { result ≡ are_none (words line.now) }
+{
+    split_word(line).is_none()
+}
+
+/// Whether a line is blank or a comment.
+pub fn is_skipped(line: &[u8]) -> bool
+    ensures { result ≡ is_skipped line.now }
+{
+    if begins_with(b'#', line) {
+        return true;
+    }
+    has_no_word(line)
+}
+
+/// Whether a line may stand behind END.
+pub fn is_report(line: &[u8]) -> bool
+    ensures { result ≡ is_report line.now }
+{
+    begins_with(b'*', line)
+}
+
+fn is_text(line: &[u8]) -> bool
+    ensures { result ≡ list_all is_text_byte line.now }
+{
+    line.iter().all(|b| matches!(*b, b' '..=b'~'))
+}
+
+/// What is wrong with the bytes of a line.
+pub fn bytes_fault(line: &[u8]) -> Option<Reason>
+    ensures { result ≡ bytes_fault line.now }
+{
+    if !is_text(line) {
+        return Some(Reason::BadByte);
+    }
+    if line.len() > 300 {
+        return Some(Reason::LongLine);
+    }
+    None
 }

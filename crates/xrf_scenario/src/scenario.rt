@@ -1,77 +1,230 @@
-//! The scenario: settings, first records and work.
+//! The scenario: settings, first records, the command list, the work of both sites, and a plan.
 
 ghost use Rattle.std.specs.Prelude.{◌≡◌, IfOk};
 
-use crate::choice::Choice;
+use crate::settings::Settings;
 use std::alloc::AllocError;
 use std::marker::Model;
-use xrf_base::{Item, Value};
+use xrf_base::{Item, Name8, Site, Takeovr, Tick, Value};
+use xrf_clt::Clt;
+use xrf_forms::{Choice, Format};
 
-/// A scenario. Contracts see its settings, first records and work (`Scen` of the specs).
+/// A scenario. Contracts see its parts (`Scen` of the specs).
 #[derive(Drop)]
 pub struct Scenario {
-    file: u16,
-    // by number, from 1, whatever FILE is: record n stands at n - 1
-    records: Vec<Option<Value>>,
-    work: Vec<Item>,
+    settings: Settings,
+    // by number
+    records: Vec<(u16, Value)>,
+    clt: Clt,
+    work_a: Vec<Item>,
+    work_b: Vec<Item>,
+    plan: Vec<(Tick, Choice)>,
 }
 
 impl Model for Scenario {
-    ghost use Rattle.std.specs.Prelude.{◌≡◌, length};
     ghost use Rattle.xrf_scenario.specs.Scenario.{Scen, IsScen};
 
     ghost Value = { Scen };
 
-    ghost view = { λ s. record { file = s.file; records = s.records.items; work = s.work.items } };
+    ghost view = { λ s. record { settings = s.settings; records = s.records.items; clt = s.clt; work_a = s.work_a.items; work_b = s.work_b.items; plan = s.plan.items } };
 
-    ghost invariant = { λ s. IsScen (record { file = s.file; records = s.records.items; work = s.work.items }) };
+    ghost invariant = { λ s. IsScen (record { settings = s.settings; records = s.records.items; clt = s.clt; work_a = s.work_a.items; work_b = s.work_b.items; plan = s.plan.items }) };
 }
 
-/// A choice and the number of its line.
-#[derive(Clone, Copy, PartialEq, Eq)]
-pub struct Numbered {
-    pub choice: Choice,
-    pub line: u32,
+fn copied_records(records: &Vec<(u16, Value)>) -> Result<Vec<(u16, Value)>, AllocError>
+    ensures { IfOk result (λ copy. copy.items ≡ records.now.items) }
+{
+    records.clone()
+}
+
+fn copied_plan(plan: &Vec<(Tick, Choice)>) -> Result<Vec<(Tick, Choice)>, AllocError>
+    ensures { IfOk result (λ copy. copy.items ≡ plan.now.items) }
+{
+    plan.clone()
+}
+
+fn copied_work(work: &Vec<Item>) -> Result<Vec<Item>, AllocError>
+    ensures { IfOk result (λ copy. copy.items ≡ work.now.items) }
+{
+    work.clone()
 }
 
 impl Scenario {
-    ghost use Rattle.xrf_scenario.specs.Scenario.{Scen, IsScen};
+    ghost use Rattle.xrf_scenario.specs.Scenario.{Scen, IsScen, applid_of, level_at, work_of};
 
-    /// A scenario of these parts: the number of the file's records, the first records by number
-    /// from 1, and the work of site A.
-    pub fn new(file: u16, records: Vec<Option<Value>>, work: Vec<Item>) -> Scenario
-        requires { IsScen (record { file = file; records = records.items; work = work.items }) }
-        ensures { result ≡ record { file = file; records = records.items; work = work.items } }
+    /// A scenario of these parts, the records by number.
+    pub fn new(
+        settings: Settings,
+        records: Vec<(u16, Value)>,
+        clt: Clt,
+        work_a: Vec<Item>,
+        work_b: Vec<Item>,
+        plan: Vec<(Tick, Choice)>,
+    ) -> Scenario
+        requires { IsScen (record { settings = settings; records = records.items; clt = clt; work_a = work_a.items; work_b = work_b.items; plan = plan.items }) }
+        ensures { result ≡ record { settings = settings; records = records.items; clt = clt; work_a = work_a.items; work_b = work_b.items; plan = plan.items } }
     {
         Scenario {
-            file,
+            settings,
             records,
-            work,
+            clt,
+            work_a,
+            work_b,
+            plan,
         }
+    }
+
+    /// All settings.
+    pub fn settings(&self) -> &Settings
+        ensures settings { result.now ≡ self.now.settings }
+        ensures scenario { IsScen self.now }
+    {
+        &self.settings
+    }
+
+    /// APPLID: the name of a site's region.
+    pub fn applid(&self, site: Site) -> Name8
+        ensures applid { result ≡ applid_of self.now.settings site }
+        ensures scenario { IsScen self.now }
+    {
+        match site {
+            Site::A => self.settings.applid_a,
+            Site::B => self.settings.applid_b,
+        }
+    }
+
+    /// TAKEOVR: what an alternate may do by itself.
+    pub fn takeovr(&self) -> Takeovr
+        ensures takeovr { result ≡ self.now.settings.takeovr }
+        ensures scenario { IsScen self.now }
+    {
+        self.settings.takeovr
+    }
+
+    /// ADI: 5 to 3600 seconds.
+    pub fn adi(&self) -> u32
+        ensures adi { result ≡ self.now.settings.adi }
+        ensures scenario { IsScen self.now }
+    {
+        self.settings.adi as u32
+    }
+
+    /// PDI: 5 to 3600 seconds.
+    pub fn pdi(&self) -> u32
+        ensures pdi { result ≡ self.now.settings.pdi }
+        ensures scenario { IsScen self.now }
+    {
+        self.settings.pdi as u32
+    }
+
+    /// LOG: how many slots the log has, a multiple of 64 from 64 to 1024.
+    pub fn log(&self) -> u16
+        ensures log { result ≡ self.now.settings.log }
+        ensures scenario { IsScen self.now }
+    {
+        self.settings.log
+    }
+
+    /// RING: how many messages a ring holds, 2 to 64.
+    pub fn ring(&self) -> u8
+        ensures ring { result ≡ self.now.settings.ring }
+        ensures scenario { IsScen self.now }
+    {
+        self.settings.ring as u8
     }
 
     /// FILE: how many records the file has, 1 to 256.
     pub fn file(&self) -> u16
-        ensures file { result ≡ self.now.file }
+        ensures file { result ≡ self.now.settings.file }
         ensures scenario { IsScen self.now }
     {
-        self.file
+        self.settings.file
     }
 
-    /// The first records, by number from 1: 256 places, of which those above FILE are empty.
-    pub fn records(&self) -> &[Option<Value>]
+    /// PACE: 10 to 200.
+    pub fn pace(&self) -> u32
+        ensures pace { result ≡ self.now.settings.pace }
+        ensures scenario { IsScen self.now }
+    {
+        self.settings.pace as u32
+    }
+
+    /// TICKS: 0 to 200.
+    pub fn ticks(&self) -> Tick
+        ensures ticks { result ≡ self.now.settings.ticks }
+        ensures scenario { IsScen self.now }
+    {
+        self.settings.ticks as Tick
+    }
+
+    /// IMAGES: whether it is ON.
+    pub fn images(&self) -> bool
+        ensures images { result ≡ self.now.settings.images }
+        ensures scenario { IsScen self.now }
+    {
+        self.settings.images
+    }
+
+    /// The format of the text that spells the scenario.
+    pub fn format(&self) -> Format
+        ensures format { result ≡ self.now.settings.format }
+        ensures scenario { IsScen self.now }
+    {
+        self.settings.format
+    }
+
+    /// LEVEL: the level of a site, 1 or 2.
+    pub fn level(&self, site: Site) -> u8
+        ensures level { result ≡ level_at self.now.settings site }
+        ensures scenario { IsScen self.now }
+    {
+        match site {
+            Site::A => self.settings.level_a as u8,
+            Site::B => self.settings.level_b as u8,
+        }
+    }
+
+    /// XRFSOFF: whether it is FORCE.
+    pub fn xrfsoff_force(&self) -> bool
+        ensures force { result ≡ self.now.settings.force }
+        ensures scenario { IsScen self.now }
+    {
+        self.settings.force
+    }
+
+    /// The first records, by number.
+    pub fn records(&self) -> &[(u16, Value)]
         ensures records { result.now ≡ self.now.records }
         ensures scenario { IsScen self.now }
     {
         self.records.as_slice()
     }
 
-    /// The work of site A, in order.
-    pub fn work(&self) -> &[Item]
-        ensures work { result.now ≡ self.now.work }
+    /// The command list.
+    pub fn clt(&self) -> &Clt
+        ensures clt { result.now ≡ self.now.clt }
         ensures scenario { IsScen self.now }
     {
-        self.work.as_slice()
+        &self.clt
+    }
+
+    /// The work of a site, in order.
+    pub fn work(&self, site: Site) -> &[Item]
+        ensures work { result.now ≡ work_of self.now site }
+        ensures scenario { IsScen self.now }
+    {
+        match site {
+            Site::A => self.work_a.as_slice(),
+            Site::B => self.work_b.as_slice(),
+        }
+    }
+
+    /// The planned choices with their ticks, in order.
+    pub fn plan(&self) -> &[(Tick, Choice)]
+        ensures plan { result.now ≡ self.now.plan }
+        ensures scenario { IsScen self.now }
+    {
+        self.plan.as_slice()
     }
 
     /// The same scenario in memory of its own.
@@ -79,9 +232,12 @@ impl Scenario {
         ensures { IfOk result (λ scenario. scenario ≡ self.now) }
     {
         Ok(Scenario {
-            file: self.file,
-            records: self.records.clone()?,
-            work: self.work.clone()?,
+            settings: self.settings,
+            records: copied_records(&self.records)?,
+            clt: self.clt.copy()?,
+            work_a: copied_work(&self.work_a)?,
+            work_b: copied_work(&self.work_b)?,
+            plan: copied_plan(&self.plan)?,
         })
     }
 }

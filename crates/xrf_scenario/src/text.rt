@@ -1,88 +1,162 @@
 //! The scenario text as a whole.
 
-ghost use Rattle.std.specs.Prelude.{◌≡◌, ◌≤◌, length, [], true, IfOk, IfErr};
+ghost use Rattle.std.specs.Prelude.{◌≡◌, ◌≤◌, ◌+◌, ℕ, length, [], map, true, IfOk, IfErr};
+ghost use Rattle.xrf_scenario.specs.Lines.{text_lines};
 ghost use Rattle.xrf_scenario.specs.Machine.{read_whole, read_on};
-ghost use Rattle.xrf_scenario.specs.Said.{Gives, said, IsSaid, IsBad};
-ghost use Rattle.xrf_scenario.specs.Reading.{is_whole, scenario_of, Reads, OneReading, NeverBoth, OneFault};
+ghost use Rattle.xrf_scenario.specs.Held.{said, bad_of, Gives, IsBad};
+ghost use Rattle.xrf_scenario.specs.Said.{IsSaid};
+ghost use Rattle.xrf_scenario.specs.SoFar.{is_whole};
+ghost use Rattle.xrf_scenario.specs.Reading.{told, Reads, OneReading, NeverBoth, OneFault};
+ghost use Rattle.xrf_scenario.specs.Canonical.{AreChoices};
+ghost use Rattle.xrf_scenario.specs.Built.{IsBuilt, AreBuilt};
+ghost use Rattle.xrf_scenario.specs.declared.built.Forms.TheVariants.{All, Built};
+ghost use Rattle.xrf_scenario.specs.declared.numbered.Numbered.{Numbered};
+ghost use Rattle.xrf_scenario.specs.Scenario.{by_number, scenario_of};
 
-use crate::lines::first_line;
-use crate::reading::{Reading, at_end};
-use crate::reason::{Fault, ReadBad, Reason};
-use crate::scenario::{Numbered, Scenario};
-use std::alloc::Global;
+use crate::built::Forms;
+use crate::lines::next_line;
+use crate::numbered::Numbered;
+use crate::read_bad::ReadBad;
+use crate::reading::Reading;
+use crate::scenario::Scenario;
+use crate::settled::settled;
+use crate::stepping::is_whole;
+use crate::stop::Stop;
+use std::alloc::{AllocError, Global};
+use xrf_base::Value;
+use xrf_forms::Reason;
 
-fn end_or_fault(reading: Reading, number: u32) -> Result<Reading, ReadBad>
-    requires { IsSaid (said reading) }
-    ensures gives { Gives result (read_on (said reading) number []) }
-    ensures whole { IfOk result (λ r. IsSaid (said r) × (is_whole r.part ≡ true)) }
+// on the last line the want of END comes before what is not built
+fn told(reason: Reason, behind: &[u8]) -> Reason
+    ensures { result ≡ told (text_lines behind.now) reason }
 {
-    if at_end(reading.part) {
-        return Ok(reading);
+    match next_line(behind) {
+        Some(_) => reason,
+        None => match reason {
+            Reason::NotBuilt => Reason::NoEnd,
+            _ => reason,
+        },
     }
-    Err(ReadBad::Bad(Fault {
-        line: number.max(1),
-        reason: Reason::NoEnd,
-    }))
 }
 
-fn read_lines(alloc: Global, text: &[u8]) -> Result<Reading, ReadBad>
+fn bad_of(stop: Stop, line: u32, behind: &[u8]) -> ReadBad
+    ensures { result ≡ bad_of stop line (text_lines behind.now) }
+{
+    match stop {
+        Stop::Fault(reason) => ReadBad::Bad {
+            line,
+            reason: told(reason, behind),
+        },
+        Stop::NoMemory => ReadBad::NoMemory,
+    }
+}
+
+fn end_or_fault(forms: Forms, reading: Reading, count: u32) -> Result<Reading, ReadBad>
+    requires { IsSaid (said reading) }
+    ensures gives { Gives result (read_on forms (said reading) count []) }
+    ensures whole { IfOk result (λ r. IsSaid (said r) × (is_whole r.part ≡ true)) }
+{
+    if is_whole(reading.part) {
+        return Ok(reading);
+    }
+    Err(ReadBad::Bad {
+        line: count.max(1),
+        reason: Reason::NoEnd,
+    })
+}
+
+fn read_lines(alloc: Global, forms: Forms, text: &[u8]) -> Result<Reading, ReadBad>
     requires { length text.now ≤ 4194304 }
-    ensures gives { Gives result (read_whole text.now) }
+    ensures gives { Gives result (read_whole forms text.now) }
     ensures whole { IfOk result (λ r. IsSaid (said r) × (is_whole r.part ≡ true)) }
 {
     let mut reading = Reading::new(alloc)?;
     let mut rest = text;
-    let mut number = 0u32;
-    'lines: while !rest.is_empty() {
-        let (line, behind) = first_line(rest);
-        number += 1;
-        if !reading.take(line, number)? {
-            return Err(ReadBad::Bad(Fault {
-                line: number,
-                reason: Reason::NotBuilt,
-            }));
+    let mut count = 0u32;
+    'lines: while let Some((line, behind)) = next_line(rest) {
+        count += 1;
+        match reading.step(alloc, forms, count, line) {
+            Ok(()) => {}
+            Err(stop) => return Err(bad_of(stop, count, behind)),
         }
         rest = behind;
     }
-    end_or_fault(reading, number)
+    end_or_fault(forms, reading, count)
 }
 
-fn parts(reading: Reading) -> (Scenario, Vec<Numbered>)
+fn by_number(alloc: Global, places: &[Option<Value>]) -> Result<Vec<(u16, Value)>, AllocError>
+    requires { length places.now ≤ 256 }
+    ensures { IfOk result (λ records. records.items ≡ by_number 1 places.now) }
+{
+    let mut records = Vec::new(alloc);
+    let mut number = 1u16;
+    for place in places {
+        if let Some(value) = place {
+            records.push((number, *value))?;
+        }
+        number += 1;
+    }
+    Ok(records)
+}
+
+// the scenario and the choices of what is said
+fn parts(alloc: Global, reading: Reading) -> Result<(Scenario, Vec<Numbered>), AllocError>
     requires said { IsSaid (said reading) }
     requires whole { is_whole reading.part ≡ true }
-    ensures scenario { result.0 ≡ scenario_of (said reading) }
-    ensures choices { result.1.items ≡ (said reading).choices }
-    ensures few { length result.1.items ≤ 8192 }
+    ensures scenario { IfOk result (λ r. r.0 ≡ scenario_of (said reading)) }
+    ensures choices { IfOk result (λ r. r.1.items ≡ (said reading).choices) }
 {
-    let file = reading.file_or_default();
     let Reading {
         part: _,
-        file: _,
+        format,
+        given,
         records,
-        work,
+        clt,
+        work_a,
+        work_b,
+        plan,
         choices,
     } = reading;
-    (Scenario::new(file, records, work), choices)
+    let records = by_number(alloc, &records)?;
+    let settings = settled(format, &given);
+    let scenario = Scenario::new(settings, records, clt, work_a, work_b, plan);
+    Ok((scenario, choices))
 }
 
 /// The scenario and the choices that a text spells, each choice with the number of its line; else
-/// the first bad line, counted from 1, with its reason. A text is of at most 4,194,304 bytes, and
-/// what is read has at most 8,192 choices.
-pub fn read(alloc: Global, text: &[u8]) -> Result<(Scenario, Vec<Numbered>), ReadBad>
+/// the first bad line, counted from 1, with its first reason. A text is of at most 4,194,304 bytes.
+/// Lines that may not come, of these forms, are bad.
+pub fn read_forms(
+    alloc: Global,
+    forms: Forms,
+    text: &[u8],
+) -> Result<(Scenario, Vec<Numbered>), ReadBad>
     requires { length text.now ≤ 4194304 }
-    ensures found { IfOk result (λ r. Reads text.now r.0 r.1.items) }
-    ensures few { IfOk result (λ r. length r.1.items ≤ 8192) }
-    ensures bad { IfErr result (λ e. IsBad text.now e) }
+    ensures found { IfOk result (λ r. Reads forms text.now r.0 r.1.items) }
+    ensures choices { IfOk result (λ r. AreChoices (map (λ (n : Numbered). n.choice) r.1.items)) }
+    ensures built { forms ≡ Built → IfOk result (λ r. IsBuilt r.0 × AreBuilt (map (λ (n : Numbered). n.choice) r.1.items)) }
+    ensures bad { IfErr result (λ e. IsBad forms text.now e) }
 {
-    match read_lines(alloc, text) {
-        Ok(reading) => Ok(parts(reading)),
+    match read_lines(alloc, forms, text) {
+        Ok(reading) => Ok(parts(alloc, reading)?),
         Err(bad) => Err(bad),
     }
 }
 
+/// The scenario and the choices that a text spells, each choice with the number of its line; else
+/// the first bad line, counted from 1, with its first reason. A text is of at most 4,194,304 bytes.
+pub fn read(alloc: Global, text: &[u8]) -> Result<(Scenario, Vec<Numbered>), ReadBad>
+    requires { length text.now ≤ 4194304 }
+    ensures found { IfOk result (λ r. Reads All text.now r.0 r.1.items) }
+    ensures choices { IfOk result (λ r. AreChoices (map (λ (n : Numbered). n.choice) r.1.items)) }
+    ensures bad { IfErr result (λ e. IsBad All text.now e) }
+{
+    read_forms(alloc, Forms::All, text)
+}
+
 /// A text is read in one way, no text is both read and refused, and it is refused in one way: so
-/// what is spelled is read, and what has a bad line is refused at the first for its reason, unless
-/// memory runs out.
+/// what is spelled is read, and what has a bad line is refused at the first for its first reason,
+/// unless memory runs out.
 pub fn one_reading()
     ensures one_reading { OneReading }
     ensures never_both { NeverBoth }

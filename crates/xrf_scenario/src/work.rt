@@ -1,52 +1,50 @@
 //! The work of one unit.
 
-ghost use Rattle.std.specs.Prelude.{◌≡◌, ◌++◌, [], ◌∷◌, true};
-ghost use Rattle.xrf_scenario.specs.Work.{is_work, is_unit_rest, ends_in_commit, is_commit};
-ghost use Rattle.xrf_scenario.specs.Spelling.{IsItem};
+ghost use Rattle.std.specs.Prelude.{◌≡◌, ◌++◌, [], ◌∷◌};
+ghost use Rattle.std.specs.List.{AllByRecursion};
+ghost use Rattle.xrf_forms.specs.Spelling.{HasItem};
+ghost use Rattle.xrf_scenario.specs.Work.{is_work, is_unit_rest, is_put_of};
 
 use xrf_base::{Item, Name8};
 
-fn is_last(item: &Item) -> bool
-    ensures { result ≡ is_commit item.now }
-{
-    matches!(item, Item::Commit(_))
-}
-
-fn is_committed(items: &[Item]) -> bool
-    ensures { result ≡ ends_in_commit items.now }
-{
-    match items {
-        [] => false,
-        [.., last] => is_last(last),
-    }
-}
-
-fn names_unit(unit: &Name8, item: &Item) -> bool
-    requires { IsItem item.now }
-    ensures { result ≡ is_unit_rest unit.now (item.now ∷ []) }
+fn puts_to(unit: &Name8, item: &Item) -> bool
+    requires { HasItem item.now }
+    ensures { result ≡ is_put_of unit.now item.now }
 {
     match item {
         Item::Put(name, _, _) => *name == *unit,
-        Item::Commit(name) => *name == *unit,
         _ => false,
     }
 }
 
+// whether an item may be the last, so far, of a unit
+fn names_unit(unit: &Name8, item: &Item) -> bool
+    requires { HasItem item.now }
+    ensures { result ≡ is_unit_rest unit.now (item.now ∷ []) }
+{
+    match item {
+        Item::Commit(name) => *name == *unit,
+        _ => puts_to(unit, item),
+    }
+}
+
 fn rest_goes_on(unit: &Name8, rest: &[Item], item: &Item) -> bool
-    requires work { is_unit_rest unit.now rest.now ≡ true }
-    requires item { IsItem item.now }
+    requires rest { AllByRecursion HasItem rest.now }
+    requires item { HasItem item.now }
     ensures { result ≡ is_unit_rest unit.now (rest.now ++ item.now ∷ []) }
 {
-    if is_committed(rest) {
-        return false;
+    for next in rest {
+        if !puts_to(unit, next) {
+            return false;
+        }
     }
     names_unit(unit, item)
 }
 
-/// Whether an item may come behind these.
+/// Whether these items and one more are no more than one unit.
 pub fn goes_on(work: &[Item], item: &Item) -> bool
-    requires work { is_work work.now ≡ true }
-    requires item { IsItem item.now }
+    requires work { AllByRecursion HasItem work.now }
+    requires item { HasItem item.now }
     ensures { result ≡ is_work (work.now ++ item.now ∷ []) }
 {
     match work {

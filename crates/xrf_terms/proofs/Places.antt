@@ -3,6 +3,7 @@ use Rattle.std.proofs.Common.{◌≡◌, ◌≢◌, ℕ, zero, suc, ◌+◌, ◌
 use Rattle.std.specs.Prelude.{insert, remove, slice_set}
 use Rattle.std.specs.List.{position, position_or_len}
 use Rattle.std.proofs.lemmas.Bool.Decides.{nat_tests}
+use Rattle.std.proofs.lemmas.List.Sums.{prefix_len-le-length}
 use Rattle.std.proofs.lemmas.Option.{slice_get_read}
 use Rattle.std.proofs.lemmas.Slice.Eq.{bytes_eq-Decides}
 use Rattle.xrf_terms.specs.declared.rows.Row.{Row}
@@ -90,14 +91,6 @@ inserted-insert row (next ∷ rows) = by (is_later row.term next) refl (inserted
     by true e more = refl
     by false e more = let one : 1 + position_or_len (is_later row.term) rows ≡ suc (position_or_len (is_later row.term) rows) = omega arith in rw one (ap (λ (rest : List Row). next ∷ rest) more)
 
-pub position_or_len-le : (p : Row → Bool) (rows : List Row) → position_or_len p rows ≤ length rows
-position_or_len-le p [] = omega arith
-position_or_len-le p (x ∷ xs) = by (p x) refl (position_or_len-le p xs)
-  where
-    by : (passes : Bool) → p x ≡ passes → position_or_len p xs ≤ length xs → cond (not passes) (1 + position_or_len p xs) 0 ≤ length (x ∷ xs)
-    by true e more = omega arith
-    by false e more = omega arith
-
 -- the place of the first that passes, or the end
 pub unwrap_or-position : (p : Row → Bool) (rows : List Row) → unwrap_or (position p rows) (length rows) ≡ position_or_len p rows
 unwrap_or-position p rows = by (nat_lt (position_or_len p rows) (length rows)) refl
@@ -105,7 +98,7 @@ unwrap_or-position p rows = by (nat_lt (position_or_len p rows) (length rows)) r
     by : (inside : Bool) → nat_lt (position_or_len p rows) (length rows) ≡ inside
         → unwrap_or (cond inside (Some (position_or_len p rows)) None) (length rows) ≡ position_or_len p rows
     by true e = refl
-    by false e = let le = position_or_len-le p rows in grind (arith, nat_tests)
+    by false e = let le = prefix_len-le-length (λ row. not (p row)) rows in grind (arith, nat_tests)
 
 pub length-inserted : (row : Row) (rows : List Row) → length (inserted row rows) ≡ length rows + 1
 length-inserted row [] = refl

@@ -1,25 +1,17 @@
 -- Where the first element that passes a test stands.
-use Rattle.std.proofs.Common.{◌≡◌, ℕ, ◌≤◌, ◌<◌, Bool, true, false, cond, List, [], ◌∷◌, ◌==◌, ◌≢◌, Option, Some, None, length, unwrap_or, nat_lt, refl, ◌∙◌, sym, ap, arith}
+use Rattle.std.proofs.Common.{◌≡◌, ℕ, ◌<◌, Bool, true, false, not, cond, List, [], ◌∷◌, ◌==◌, ◌≢◌, Option, Some, None, length, unwrap_or, nat_lt, refl, ◌∙◌, sym, ap, arith}
 use Rattle.std.specs.List.{position, position_or_len}
 use Rattle.std.proofs.lemmas.Bool.Decides.{nat_tests}
+use Rattle.std.proofs.lemmas.List.Sums.{prefix_len-le-length}
 
--- It stands in the list or at its end.
-pub position_or_len-le : (p : ℕ → Bool) (xs : List ℕ) → position_or_len p xs ≤ length xs
-position_or_len-le p [] = omega arith
-position_or_len-le p (x ∷ xs) = by (p x) refl (position_or_len-le p xs)
-  where
-    by : (passes : Bool) → p x ≡ passes → position_or_len p xs ≤ length xs → position_or_len p (x ∷ xs) ≤ length (x ∷ xs)
-    by true e more = rw e (omega arith)
-    by false e more = rw e (omega arith)
-
--- with the place p gives, or else the length
+-- the place of the first that passes, or the end
 pub unwrap_or-position : (p : ℕ → Bool) (xs : List ℕ) → unwrap_or (position p xs) (length xs) ≡ position_or_len p xs
 unwrap_or-position p xs = by (nat_lt (position_or_len p xs) (length xs)) refl
   where
     by : (inside : Bool) → nat_lt (position_or_len p xs) (length xs) ≡ inside
         → unwrap_or (cond inside (Some (position_or_len p xs)) None) (length xs) ≡ position_or_len p xs
     by true e = refl
-    by false e = let le = position_or_len-le p xs in grind (arith, nat_tests)
+    by false e = let le = prefix_len-le-length (λ x. not (p x)) xs in grind (arith, nat_tests)
 
 pub position-none : (p : ℕ → Bool) (xs : List ℕ) → None ≡ position p xs → position_or_len p xs ≡ length xs
 position-none p xs none = sym (unwrap_or-position p xs) ∙ ap (λ (o : Option ℕ). unwrap_or o (length xs)) (sym none)

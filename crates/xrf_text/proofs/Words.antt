@@ -1,7 +1,8 @@
 -- How a line is taken apart into its words.
-use Rattle.std.proofs.Common.{◌≡◌, ◌≢◌, ℕ, suc, ◌+◌, ◌==◌, Bool, true, false, List, [], ◌∷◌, length, take, drop, filter, unwrap_or, Option, ◌<◌, length-drop, refl, sym, ap, eqb-true, ◌∙◌, arith}
+use Rattle.std.proofs.Common.{◌≡◌, ◌≢◌, ℕ, suc, ◌+◌, ◌≤◌, ◌==◌, Bool, true, false, not, List, [], ◌∷◌, length, take, drop, filter, unwrap_or, Option, ◌<◌, length-drop, refl, sym, ap, eqb-true, ◌∙◌, arith}
 use Rattle.std.specs.List.{slice_split, onto_first, position, position_or_len}
-use Rattle.xrf_text.proofs.Places.{filled_from, position_or_len-le, unwrap_or-position}
+use Rattle.std.proofs.lemmas.List.Sums.{prefix_len-le-length}
+use Rattle.xrf_text.proofs.Places.{filled_from, unwrap_or-position}
 use Rattle.xrf_text.specs.Text.{words, is_blank, is_filled}
 
 -- The first part of a line reaches to its first blank, and the words behind it are those of the rest.
@@ -69,6 +70,6 @@ cut_word line rest word after n end same some letter was at front back =
     let at_end : n ≡ position_or_len is_blank rest = at_first_blank rest n end was at in
     let filled : rest ≢ [] = filled_from rest some in
     let p = position_or_len-positive rest filled letter in
-    let le = position_or_len-le is_blank rest in
+    let le : position_or_len is_blank rest ≤ length rest = prefix_len-le-length (λ b. not (is_blank b)) rest in
     let first = first_word rest filled letter in
     (sym same ∙ rw (front, back, at_end) first, rw (back, at_end) (omega (arith, length-drop (position_or_len is_blank rest) rest)))

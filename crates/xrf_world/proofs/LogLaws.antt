@@ -4,7 +4,7 @@ use Rattle.std.specs.Option.{option_map}
 use Rattle.xrf_base.specs.declared.items.Item.{Item as WorkItem}
 use Rattle.xrf_base.specs.declared.items.Item.TheVariants.{Begin, Put as PutItem, Commit as CommitItem}
 use Rattle.xrf_base.specs.declared.items.UnitId.{UnitId}
-use Rattle.xrf_scenario.specs.Scenario.{Scen, IsScen}
+use Rattle.xrf_world.specs.Base.{Base, IsBase}
 use Rattle.xrf_scenario.specs.Work.{IsWork}
 use Rattle.xrf_world.specs.declared.act.Act.{Act}
 use Rattle.xrf_world.specs.declared.act.Act.TheVariants.{StartActive, LogBody, LogOpen, FileRead, FileWrite, Item, Restarted}
@@ -46,26 +46,26 @@ not_first_commit [] unit is found = cc
 not_first_commit (Begin name ∷ items) unit is found = cc
 not_first_commit (_ ∷ items) unit is found = cc
 
-late_put : (s : Scen) (items : ℕ) (unit : List ℕ) (number : ℕ) (value : List ℕ) → IsWork s.work → 1 ≤ items
+late_put : (s : Base) (items : ℕ) (unit : List ℕ) (number : ℕ) (value : List ℕ) → IsWork s.work → 1 ≤ items
     → item_at s items ≡ Some (PutItem unit number value) → 2 ≤ items
 late_put s zero unit number value is one found = absurd (omega arith)
 late_put s (suc zero) unit number value is one found = absurd (not_first_put s.work unit number value is found)
 late_put s (suc (suc n)) unit number value is one found = omega arith
 
-late_commit : (s : Scen) (items : ℕ) (unit : List ℕ) → IsWork s.work → 1 ≤ items → item_at s items ≡ Some (CommitItem unit) → 2 ≤ items
+late_commit : (s : Base) (items : ℕ) (unit : List ℕ) → IsWork s.work → 1 ≤ items → item_at s items ≡ Some (CommitItem unit) → 2 ≤ items
 late_commit s zero unit is one found = absurd (omega arith)
 late_commit s (suc zero) unit is one found = absurd (not_first_commit s.work unit is found)
 late_commit s (suc (suc n)) unit is one found = omega arith
 
 -- where an item is done, the next one fits
-next_item-fits : (s : Scen) (items : ℕ) (records : List LogRec) → length records ≤ items - 1 → IfSome (next_item s (counted items records)) (WillFit items records)
+next_item-fits : (s : Base) (items : ℕ) (records : List LogRec) → length records ≤ items - 1 → IfSome (next_item s (counted items records)) (WillFit items records)
 next_item-fits s items records done = by (nat_lt items (length s.work))
   where
     by : (b : Bool) → IfSome (if b then Some (Item (items + 1)) else None) (WillFit items records)
     by true = (refl, omega arith, omega arith)
     by false = tt
 
-begin_put-fits : (s : Scen) (items : ℕ) (records : List LogRec) (number : ℕ) → 2 ≤ items → length records ≤ items - 2
+begin_put-fits : (s : Base) (items : ℕ) (records : List LogRec) (number : ℕ) → 2 ≤ items → length records ≤ items - 2
     → IfSome (begin_put s (counted items records) number) (WillFit items records)
 begin_put-fits s items records number late few = by (in_file s number)
   where
@@ -73,7 +73,7 @@ begin_put-fits s items records number late few = by (in_file s number)
     by true = omega arith
     by false = next_item-fits s items records (omega arith)
 
-begin_commit-fits : (s : Scen) (items : ℕ) (records : List LogRec) → 2 ≤ items → length records ≤ items - 2
+begin_commit-fits : (s : Base) (items : ℕ) (records : List LogRec) → 2 ≤ items → length records ≤ items - 2
     → IfSome (begin_commit s (counted items records)) (WillFit items records)
 begin_commit-fits s items records late few = by (has_put records)
   where
@@ -81,7 +81,7 @@ begin_commit-fits s items records late few = by (has_put records)
     by true = (omega arith, refl)
     by false = next_item-fits s items records (omega arith)
 
-begin_item-fits : (s : Scen) (items : ℕ) (records : List LogRec) (item : Option WorkItem) → IsWork s.work → 1 ≤ items → length records ≤ items - 2
+begin_item-fits : (s : Base) (items : ℕ) (records : List LogRec) (item : Option WorkItem) → IsWork s.work → 1 ≤ items → length records ≤ items - 2
     → item_at s items ≡ item → IfSome (begin_item s (counted items records) item) (WillFit items records)
 begin_item-fits s items records (Some (PutItem unit number value)) is one few found =
     begin_put-fits s items records number (late_put s items unit number value is one found) few
@@ -93,12 +93,12 @@ put_write-fits : (items : ℕ) (records : List LogRec) (unit : UnitId) (number :
 put_write-fits items records unit number (Some (PutItem name place value)) few = few
 put_write-fits items records unit number _ few = tt
 
-after_record-fits : (s : Scen) (items : ℕ) (records : List LogRec) (rec : LogRec) → length records + 1 ≤ items
+after_record-fits : (s : Base) (items : ℕ) (records : List LogRec) (rec : LogRec) → length records + 1 ≤ items
     → IfSome (after_record s (counted items records) rec) (WillFit items records)
 after_record-fits s items records (Put unit number) few = put_write-fits items records unit number (item_at s items) few
 after_record-fits s items records (Commit unit) few = next_item-fits s items records (omega arith)
 
-after-fits : (s : Scen) (items : ℕ) (records : List LogRec) (act : Act) → IsWork s.work → Fits items (length records) act
+after-fits : (s : Base) (items : ℕ) (records : List LogRec) (act : Act) → IsWork s.work → Fits items (length records) act
     → IfSome (after s (counted items records) act) (WillFit items records)
 after-fits s items records Restarted is fits = next_item-fits s items records (omega arith)
 after-fits s items records (Item number) is fits =
@@ -114,7 +114,7 @@ abbrev NewestFits : List Entry → Type 0
 NewestFits [] = Unit {0}
 NewestFits (e ∷ t) = Fits (taken (e ∷ t)) (length (log (e ∷ t))) e.act
 
-next-fits : (s : Scen) (t : List Entry) → IsWork s.work → NewestFits t → IfSome (next s t) (WillFit (taken t) (log t))
+next-fits : (s : Base) (t : List Entry) → IsWork s.work → NewestFits t → IfSome (next s t) (WillFit (taken t) (log t))
 next-fits s [] is fits = tt
 next-fits s (e ∷ t) is fits = after-fits s (taken (e ∷ t)) (log (e ∷ t)) e.act is fits
 
@@ -122,7 +122,7 @@ started-fits : (t : List Entry) → newest t ≡ None → WillFit (taken t) (log
 started-fits [] none = (refl, refl)
 started-fits (e ∷ t) none = absurd (cc)
 
-newest_fits : (s : Scen) (t : List Entry) → IsWork s.work → IsRun s t → NewestFits t
+newest_fits : (s : Base) (t : List Entry) → IsWork s.work → IsRun s t → NewestFits t
 newest_fits s [] is made = tt
 newest_fits s (e ∷ t) is made =
     outcome-made (WillFit (taken t) (log t)) s t made.1.0 e (started-fits t) (next-fits s t is (newest_fits s t is made.0)) made.1.1
@@ -141,7 +141,7 @@ few_records [] fits = omega arith
 few_records (e ∷ t) fits = few_by (taken (e ∷ t)) (length (log (e ∷ t))) e.act fits
 
 -- a run has at most 61 log records
-pub log_within : (s : Scen) (t : List Entry) → IsScen s → IsRun s t → length (log t) ≤ 61
+pub log_within : (s : Base) (t : List Entry) → IsBase s → IsRun s t → length (log t) ≤ 61
 log_within s t is made =
     omega (arith, few_records t (newest_fits s t is.work made), taken_within s t made, is.items)
 
@@ -151,7 +151,7 @@ slot_by items records (LogBody slot rec) fits = fits.1
 slot_by items records (LogOpen slot rec) fits = omega arith
 slot_by items records _ fits = tt
 
-pub in_their_slots : (s : Scen) (t : List Entry) → IsScen s → IsRun s t → StandInTheirSlots t
+pub in_their_slots : (s : Base) (t : List Entry) → IsBase s → IsRun s t → StandInTheirSlots t
 in_their_slots s [] is made = tt
 in_their_slots s (e ∷ t) is made =
     (in_their_slots s t is made.0, slot_by (taken t) (log t) e.act (newest_fits s (e ∷ t) is.work made))

@@ -4,7 +4,7 @@ use Rattle.xrf_base.specs.declared.items.Item.{Item as WorkItem}
 use Rattle.xrf_base.specs.declared.items.Item.TheVariants.{Begin, Put as PutItem, Commit as CommitItem}
 use Rattle.xrf_base.specs.declared.items.ItemAnswer.{ItemAnswer}
 use Rattle.xrf_base.specs.declared.items.ItemAnswer.TheVariants.{Done, BadRrn}
-use Rattle.xrf_scenario.specs.Scenario.{Scen}
+use Rattle.xrf_world.specs.Base.{Base}
 use Rattle.xrf_world.specs.declared.act.Act.{Act}
 use Rattle.xrf_world.specs.declared.act.Act.TheVariants.{LogOpen, FileWrite, Item}
 use Rattle.xrf_world.specs.declared.act.LogRec.{LogRec}
@@ -18,7 +18,7 @@ use Rattle.xrf_world.specs.Next.{item_at, in_file}
 
 -- the answer of an item that is answered where it is taken: BEGIN, a PUT outside the file, and the
 -- COMMIT of a unit that has put nothing
-abbrev pub answer_at_once : Scen → Counts → Option WorkItem → Option ItemAnswer
+abbrev pub answer_at_once : Base → Counts → Option WorkItem → Option ItemAnswer
 answer_at_once s c (Some (Begin unit)) = Some Done
 answer_at_once s c (Some (PutItem unit number value)) = if in_file s number then None else Some BadRrn
 answer_at_once s c (Some (CommitItem unit)) = if c.put then None else Some Done
@@ -30,7 +30,7 @@ answer_of_record (Commit unit) = Some Done
 
 -- The answer that an act gives to the item taken last: a PUT is done with the write of the record,
 -- and a COMMIT with the log record of the commit.
-abbrev pub answer_by : Scen → Counts → Act → Option ItemAnswer
+abbrev pub answer_by : Base → Counts → Act → Option ItemAnswer
 answer_by s c (Item number) = answer_at_once s c (item_at s number)
 answer_by s c (LogOpen slot rec) = answer_of_record rec
 answer_by s c (FileWrite unit number value) = Some Done
@@ -42,7 +42,7 @@ answer_after last (Some given) number before = if number == last then Some given
 answer_after last None number before = before
 
 -- the answer of the item of a number from 1, or none yet
-abbrev pub answer : Scen → List Entry → ℕ → Option ItemAnswer
+abbrev pub answer : Base → List Entry → ℕ → Option ItemAnswer
 answer s [] number = None
 answer s (e ∷ t) number = answer_after (taken (e ∷ t)) (answer_by s (counts (e ∷ t)) e.act) number (answer s t number)
 

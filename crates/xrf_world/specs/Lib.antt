@@ -1,3 +1,4 @@
+pub mod Base
 pub mod Trace
 pub mod Next
 pub mod Items

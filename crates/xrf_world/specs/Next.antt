@@ -5,7 +5,7 @@ use Rattle.xrf_base.specs.declared.items.Item.{Item as WorkItem}
 use Rattle.xrf_base.specs.declared.items.Item.TheVariants.{Put as PutItem, Commit as CommitItem}
 use Rattle.xrf_base.specs.declared.items.UnitId.{UnitId}
 use Rattle.xrf_base.specs.declared.site.Site.TheVariants.{A}
-use Rattle.xrf_scenario.specs.Scenario.{Scen}
+use Rattle.xrf_world.specs.Base.{Base}
 use Rattle.xrf_world.specs.declared.act.Act.{Act}
 use Rattle.xrf_world.specs.declared.act.Act.TheVariants.{StartActive, Reserve, CtlRead, CtlWrite, Release, Signal1, Signal2, Look1, Look2, Decide, LogRead, LogBody, LogOpen, FileRead, FileWrite, Item, Restarted}
 use Rattle.xrf_world.specs.declared.act.Control.{Control}
@@ -31,26 +31,26 @@ abbrev pub only_unit : UnitId
 only_unit = record { inc = 1; serial = 1 }
 
 -- the item of a number from 1
-abbrev pub item_at : Scen → ℕ → Option WorkItem
+abbrev pub item_at : Base → ℕ → Option WorkItem
 item_at s number = slice_get s.work (number - 1)
 
 -- a record number is 1 to FILE
-abbrev pub in_file : Scen → ℕ → Bool
+abbrev pub in_file : Base → ℕ → Bool
 in_file s number = nat_le 1 number && nat_le number s.file
 
 -- the next item, where the work has more items than were taken
-abbrev pub next_item : Scen → Counts → Option Act
+abbrev pub next_item : Base → Counts → Option Act
 next_item s c = if nat_lt c.taken (length s.work) then Some (Item (c.taken + 1)) else None
 
 -- A PUT in the file begins with the read of its record, and a COMMIT of a unit with a PUT with the
 -- log record of the commit. Any other item is answered where it is taken.
-abbrev pub begin_put : Scen → Counts → ℕ → Option Act
+abbrev pub begin_put : Base → Counts → ℕ → Option Act
 begin_put s c number = if in_file s number then Some (FileRead number) else next_item s c
 
-abbrev pub begin_commit : Scen → Counts → Option Act
+abbrev pub begin_commit : Base → Counts → Option Act
 begin_commit s c = if c.put then Some (LogBody c.records (Commit only_unit)) else next_item s c
 
-abbrev pub begin_item : Scen → Counts → Option WorkItem → Option Act
+abbrev pub begin_item : Base → Counts → Option WorkItem → Option Act
 begin_item s c (Some (PutItem unit number value)) = begin_put s c number
 begin_item s c (Some (CommitItem unit)) = begin_commit s c
 begin_item s c _ = next_item s c
@@ -61,12 +61,12 @@ put_value (Some (PutItem unit number value)) = Some value
 put_value _ = None
 
 -- The log record of a PUT lets its value be written, that of a COMMIT ends the item.
-abbrev pub after_record : Scen → Counts → LogRec → Option Act
+abbrev pub after_record : Base → Counts → LogRec → Option Act
 after_record s c (Put unit number) = option_map (FileWrite unit number) (put_value (item_at s c.taken))
 after_record s c (Commit unit) = next_item s c
 
 -- what follows an act
-abbrev pub after : Scen → Counts → Act → Option Act
+abbrev pub after : Base → Counts → Act → Option Act
 after s c StartActive = Some Reserve
 after s c Reserve = Some CtlRead
 after s c CtlRead = Some (CtlWrite first_grant)
@@ -86,5 +86,5 @@ after s c (LogOpen slot rec) = after_record s c rec
 after s c (FileWrite unit number value) = next_item s c
 
 -- the next act in a trace: none before the region is started
-abbrev pub next : Scen → List Entry → Option Act
+abbrev pub next : Base → List Entry → Option Act
 next s t = option_and_then (after s (counts t)) (newest t)

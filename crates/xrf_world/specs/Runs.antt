@@ -1,8 +1,9 @@
 -- What a choice does, and what a run of choices is.
 use Rattle.std.specs.Prelude.{◌≡◌, ℕ, ◌+◌, List, [], ◌∷◌, Option, Some, None, Result, Ok, Err}
-use Rattle.xrf_scenario.specs.Scenario.{Scen}
-use Rattle.xrf_scenario.specs.declared.choice.Choice.{Choice}
-use Rattle.xrf_scenario.specs.declared.choice.Choice.TheVariants.{StartActive as Start, Step}
+use Rattle.xrf_world.specs.Base.{Base}
+use Rattle.xrf_forms.specs.declared.choice.Choice.{Choice}
+use Rattle.xrf_forms.specs.declared.choice.Choice.TheVariants.{StartActive as Start, Step}
+use Rattle.xrf_base.specs.declared.site.Site.TheVariants.{A as SiteA}
 use Rattle.xrf_world.specs.declared.act.Act.{Act}
 use Rattle.xrf_world.specs.declared.act.Act.TheVariants.{StartActive}
 use Rattle.xrf_world.specs.declared.entry.Entry.{Entry}
@@ -27,10 +28,12 @@ abbrev pub step : ℕ → Option Act → Result Entry Refused
 step number (Some act) = Ok (entry number act)
 step number None = Err NotEnabled
 
--- the entry that a choice adds, or why it is refused
-abbrev pub outcome : Scen → List Entry → Choice → Result Entry Refused
-outcome s t Start = start (newest t)
-outcome s t Step = step (region_number t) (next s t)
+-- The entry that a choice adds, or why it is refused. Any choice but a start of A as active and a
+-- step of A is not run yet, and a text that has one is refused before its choices are made.
+abbrev pub outcome : Base → List Entry → Choice → Result Entry Refused
+outcome s t (Start SiteA) = start (newest t)
+outcome s t (Step SiteA) = step (region_number t) (next s t)
+outcome s t _ = Err NotEnabled
 
 -- the first choice that is refused, by its place from 0, and the reason
 pub record Refusal : Type 0 where
@@ -38,22 +41,22 @@ pub record Refusal : Type 0 where
   pub reason : Refused
 
 -- the run of a list of choices in the order in which they are made
-abbrev pub run_from : Scen → List Entry → ℕ → List Choice → Result (List Entry) Refusal
+abbrev pub run_from : Base → List Entry → ℕ → List Choice → Result (List Entry) Refusal
 run_from s t place [] = Ok t
 run_from s t place (c ∷ cs) =
     elim (outcome s t c) [ Ok e ↦ run_from s (e ∷ t) (place + 1) cs | Err why ↦ Err (record { place = place; reason = why }) ]
 
-abbrev pub run : Scen → List Choice → Result (List Entry) Refusal
+abbrev pub run : Base → List Choice → Result (List Entry) Refusal
 run s cs = run_from s [] 0 cs
 
 -- each entry is one that a choice adds to the trace before it
-abbrev pub IsRun : Scen → List Entry → Type 0
+abbrev pub IsRun : Base → List Entry → Type 0
 IsRun s [] = Unit {0}
 IsRun s (e ∷ t) = IsRun s t × ((c : Choice) × (outcome s t c ≡ Ok e))
 
--- a World: a scenario and the trace of a run
+-- a World: what runs of a scenario, and the trace of a run
 pub record Run : Type 0 where
-  pub scenario : Scen
+  pub scenario : Base
   pub trace : List Entry
 
 -- what a choice does to it: the entry is added, or the choice is refused and nothing changes

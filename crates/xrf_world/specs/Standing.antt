@@ -1,6 +1,6 @@
 -- How a World's fields stand for its trace.
 use Rattle.std.specs.Prelude.{◌≡◌, ℕ, ◌+◌, ◌<◌, List, length, Option, None, reverse, slice_index_or}
-use Rattle.xrf_scenario.specs.Scenario.{Scen}
+use Rattle.xrf_world.specs.Base.{Base}
 use Rattle.xrf_world.specs.declared.entry.Entry.{Entry}
 use Rattle.xrf_world.specs.declared.progress.Progress.{Progress}
 use Rattle.xrf_world.specs.declared.kept.Kept.{Kept}
@@ -23,7 +23,7 @@ pub record Follows (p : Progress) (t : List Entry) : Type 0 where
   pub job : p.job ≡ trace.job t
 
 -- what is kept of a trace with its file and its answers: FILE places, and one for each item
-pub record Stands (kept : Kept) (s : Scen) (t : List Entry) : Type 0 where
+pub record Stands (kept : Kept) (s : Base) (t : List Entry) : Type 0 where
   pub progress : Follows kept.progress t
   pub image : KeptByNumber kept.image.items (trace.image s t)
   pub answers : KeptByNumber kept.answers.items (answer s t)
@@ -31,7 +31,7 @@ pub record Stands (kept : Kept) (s : Scen) (t : List Entry) : Type 0 where
   pub items : length kept.answers.items ≡ length s.work
 
 -- a World: its trace is that of a run, what is kept stands for it, and the journal has its memory
-pub record IsWorld (s : Scen) (journal : List Entry) (capacity : ℕ) (kept : Kept) : Type 0 where
+pub record IsWorld (s : Base) (journal : List Entry) (capacity : ℕ) (kept : Kept) : Type 0 where
   pub run : IsRun s (reverse journal)
   pub stands : Stands kept s (reverse journal)
   pub room : capacity ≡ 8192

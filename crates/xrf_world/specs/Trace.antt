@@ -1,6 +1,6 @@
 -- What a trace says. A trace is the list of a run's entries, the newest first.
 use Rattle.std.specs.Prelude.{ℕ, ◌+◌, ◌-◌, ◌==◌, ◌&&◌, Bool, true, false, not, List, [], ◌∷◌, length, Option, Some, None, slice_index_or, if◌then◌else◌}
-use Rattle.xrf_scenario.specs.Scenario.{Scen}
+use Rattle.xrf_world.specs.Base.{Base}
 use Rattle.xrf_world.specs.declared.act.Act.{Act}
 use Rattle.xrf_world.specs.declared.act.Act.TheVariants.{CtlWrite, LogOpen, FileWrite, Item, Restarted, StartActive}
 use Rattle.xrf_world.specs.declared.act.Control.{Control}
@@ -94,7 +94,7 @@ job [] = Absent
 job (e ∷ t) = job_after e.act (job t)
 
 -- the scenario's first record of a number from 1
-abbrev pub first_record : Scen → ℕ → Option (List ℕ)
+abbrev pub first_record : Base → ℕ → Option (List ℕ)
 first_record s number = if number == 0 then None else slice_index_or s.records (number - 1) None
 
 -- the record of a number in the file: what was written last
@@ -102,6 +102,6 @@ abbrev pub record_after : Act → ℕ → Option (List ℕ) → Option (List ℕ
 record_after (FileWrite unit written value) number before = if number == written then Some value else before
 record_after _ number before = before
 
-abbrev pub image : Scen → List Entry → ℕ → Option (List ℕ)
+abbrev pub image : Base → List Entry → ℕ → Option (List ℕ)
 image s [] number = first_record s number
 image s (e ∷ t) number = record_after e.act number (image s t number)

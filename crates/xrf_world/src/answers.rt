@@ -7,15 +7,15 @@ ghost use Rattle.xrf_world.specs.Items.{answer_at_once, answer_of_record, answer
 ghost use Rattle.xrf_world.specs.Standing.{KeptByNumber};
 
 use crate::act::{Act, LogRec};
+use crate::base::Base;
 use crate::next::{is_in_file, item_of};
 use crate::state::{Counts, ItemState};
 use xrf_base::{Item, ItemAnswer};
-use xrf_scenario::Scenario;
 
-fn put_at_once(scenario: &Scenario, number: u16) -> Option<ItemAnswer>
-    ensures { result ≡ (if in_file scenario.now number then None else Some ItemAnswer.BadRrn) }
+fn put_at_once(base: &Base, number: u16) -> Option<ItemAnswer>
+    ensures { result ≡ (if in_file base.now number then None else Some ItemAnswer.BadRrn) }
 {
-    if is_in_file(scenario, number) {
+    if is_in_file(base, number) {
         None
     } else {
         Some(ItemAnswer::BadRrn)
@@ -32,12 +32,12 @@ fn commit_at_once(counts: Counts) -> Option<ItemAnswer>
     }
 }
 
-fn at_once(scenario: &Scenario, counts: Counts, item: Option<Item>) -> Option<ItemAnswer>
-    ensures { result ≡ answer_at_once scenario.now counts item }
+fn at_once(base: &Base, counts: Counts, item: Option<Item>) -> Option<ItemAnswer>
+    ensures { result ≡ answer_at_once base.now counts item }
 {
     match item {
         Some(Item::Begin(_)) => Some(ItemAnswer::Done),
-        Some(Item::Put(_, number, _)) => put_at_once(scenario, number),
+        Some(Item::Put(_, number, _)) => put_at_once(base, number),
         Some(Item::Commit(_)) => commit_at_once(counts),
         _ => None,
     }
@@ -53,11 +53,11 @@ fn by_record(entry: LogRec) -> Option<ItemAnswer>
 }
 
 /// The answer that an act gives to the item taken last.
-pub(crate) fn answer_given(scenario: &Scenario, counts: Counts, act: Act) -> Option<ItemAnswer>
-    ensures { result ≡ answer_by scenario.now counts act }
+pub(crate) fn answer_given(base: &Base, counts: Counts, act: Act) -> Option<ItemAnswer>
+    ensures { result ≡ answer_by base.now counts act }
 {
     match act {
-        Act::Item(number) => at_once(scenario, counts, item_of(scenario, number)),
+        Act::Item(number) => at_once(base, counts, item_of(base, number)),
         Act::LogOpen(_, record) => by_record(record),
         Act::FileWrite(_, _, _) => Some(ItemAnswer::Done),
         _ => None,

@@ -7,11 +7,11 @@ ghost use Rattle.xrf_world.specs.Standing.{KeptByNumber, Stands};
 
 use crate::act::Act;
 use crate::answers::{answer_given, keep_answer};
+use crate::base::Base;
 use crate::entry::Entry;
 use crate::progress::Progress;
 use std::alloc::{AllocError, Global};
 use xrf_base::{ItemAnswer, Value};
-use xrf_scenario::Scenario;
 
 /// What is kept of the trace.
 #[derive(Drop)]
@@ -23,11 +23,11 @@ pub(crate) struct Kept {
     pub(crate) answers: Vec<Option<ItemAnswer>>,
 }
 
-fn first_records(scenario: &Scenario) -> &[Option<Value>]
-    ensures records { KeptByNumber result.now (image scenario.now []) }
-    ensures places { length result.now ≡ scenario.now.file }
+fn first_records(base: &Base) -> &[Option<Value>]
+    ensures records { KeptByNumber result.now (image base.now []) }
+    ensures places { length result.now ≡ base.now.file }
 {
-    &scenario.records()[..scenario.file() as usize]
+    &base.records()[..base.file() as usize]
 }
 
 fn no_answers(alloc: Global, count: usize) -> Result<Vec<Option<ItemAnswer>>, AllocError>
@@ -63,28 +63,28 @@ fn keep_record(image: &mut [Option<Value>], act: &Act)
 
 impl Kept {
     /// Before the first choice.
-    pub(crate) fn new(alloc: Global, scenario: &Scenario) -> Result<Kept, AllocError>
-        ensures { IfOk result (λ kept. Stands kept scenario.now []) }
+    pub(crate) fn new(alloc: Global, base: &Base) -> Result<Kept, AllocError>
+        ensures { IfOk result (λ kept. Stands kept base.now []) }
     {
         Ok(Kept {
             progress: Progress::new(),
-            image: Vec::from_slice(alloc, first_records(scenario))?,
-            answers: no_answers(alloc, scenario.work().len())?,
+            image: Vec::from_slice(alloc, first_records(base))?,
+            answers: no_answers(alloc, base.work().len())?,
         })
     }
 
     /// After one more entry.
-    pub(crate) fn add(&mut self, scenario: &Scenario, entry: &Entry)
+    pub(crate) fn add(&mut self, base: &Base, entry: &Entry)
         requires taken { self.old.progress.counts.taken + 1 < 2 ^ 32 }
         requires records { self.old.progress.counts.records + 1 < 2 ^ 32 }
-        ensures { (t : List Entry) → Stands self.old scenario.now t → Stands self.new scenario.now (entry.now ∷ t) }
+        ensures { (t : List Entry) → Stands self.old base.now t → Stands self.new base.now (entry.now ∷ t) }
     {
         self.progress = self.progress.after(entry);
         let counts = self.progress.counts;
         keep_answer(
             &mut self.answers,
             counts.taken,
-            answer_given(scenario, counts, entry.act),
+            answer_given(base, counts, entry.act),
         );
         keep_record(&mut self.image, &entry.act);
     }

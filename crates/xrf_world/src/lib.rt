@@ -3,6 +3,7 @@
 
 pub mod act;
 mod answers;
+mod base;
 pub mod entry;
 mod kept;
 pub mod laws;

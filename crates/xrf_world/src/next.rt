@@ -4,9 +4,9 @@ ghost use Rattle.std.specs.Prelude.{◌≡◌};
 ghost use Rattle.xrf_world.specs.Next.{first_grant, first_signal, only_unit, item_at, in_file, next_item, begin_put, begin_commit, begin_item, put_value, after_record, after};
 
 use crate::act::{Act, Control, Decided, LogRec, Owner, OwnerState, Signal};
+use crate::base::Base;
 use crate::state::Counts;
 use xrf_base::{Item, Site, UnitId, Value};
-use xrf_scenario::Scenario;
 
 fn grant() -> Control
     ensures { result ≡ first_grant }
@@ -38,59 +38,56 @@ fn unit() -> UnitId
 }
 
 /// The item of a number from 1.
-pub(crate) fn item_of(scenario: &Scenario, number: u32) -> Option<Item>
-    ensures { result ≡ item_at scenario.now number }
+pub(crate) fn item_of(base: &Base, number: u32) -> Option<Item>
+    ensures { result ≡ item_at base.now number }
 {
-    scenario
-        .work()
-        .get(number.saturating_sub(1) as usize)
-        .copied()
+    base.work().get(number.saturating_sub(1) as usize).copied()
 }
 
 /// Whether a record number is one of the file's.
-pub(crate) fn is_in_file(scenario: &Scenario, number: u16) -> bool
-    ensures { result ≡ in_file scenario.now number }
+pub(crate) fn is_in_file(base: &Base, number: u16) -> bool
+    ensures { result ≡ in_file base.now number }
 {
-    1 <= number && number <= scenario.file()
+    1 <= number && number <= base.file()
 }
 
-fn take_item(scenario: &Scenario, counts: Counts) -> Option<Act>
-    ensures { result ≡ next_item scenario.now counts }
+fn take_item(base: &Base, counts: Counts) -> Option<Act>
+    ensures { result ≡ next_item base.now counts }
 {
-    if (counts.taken as usize) < scenario.work().len() {
+    if (counts.taken as usize) < base.work().len() {
         Some(Act::Item(counts.taken + 1))
     } else {
         None
     }
 }
 
-fn start_put(scenario: &Scenario, counts: Counts, number: u16) -> Option<Act>
-    ensures { result ≡ begin_put scenario.now counts number }
+fn start_put(base: &Base, counts: Counts, number: u16) -> Option<Act>
+    ensures { result ≡ begin_put base.now counts number }
 {
-    if is_in_file(scenario, number) {
+    if is_in_file(base, number) {
         Some(Act::FileRead(number))
     } else {
-        take_item(scenario, counts)
+        take_item(base, counts)
     }
 }
 
-fn start_commit(scenario: &Scenario, counts: Counts) -> Option<Act>
-    ensures { result ≡ begin_commit scenario.now counts }
+fn start_commit(base: &Base, counts: Counts) -> Option<Act>
+    ensures { result ≡ begin_commit base.now counts }
 {
     if counts.put {
         Some(Act::LogBody(counts.records, LogRec::Commit(unit())))
     } else {
-        take_item(scenario, counts)
+        take_item(base, counts)
     }
 }
 
-fn start_item(scenario: &Scenario, counts: Counts, item: Option<Item>) -> Option<Act>
-    ensures { result ≡ begin_item scenario.now counts item }
+fn start_item(base: &Base, counts: Counts, item: Option<Item>) -> Option<Act>
+    ensures { result ≡ begin_item base.now counts item }
 {
     match item {
-        Some(Item::Put(_, number, _)) => start_put(scenario, counts, number),
-        Some(Item::Commit(_)) => start_commit(scenario, counts),
-        _ => take_item(scenario, counts),
+        Some(Item::Put(_, number, _)) => start_put(base, counts, number),
+        Some(Item::Commit(_)) => start_commit(base, counts),
+        _ => take_item(base, counts),
     }
 }
 
@@ -103,27 +100,27 @@ fn value_put(item: &Option<Item>) -> Option<Value>
     }
 }
 
-fn write_put(scenario: &Scenario, counts: Counts, unit: UnitId, number: u16) -> Option<Act>
-    ensures { result ≡ after_record scenario.now counts (LogRec.Put unit number) }
+fn write_put(base: &Base, counts: Counts, unit: UnitId, number: u16) -> Option<Act>
+    ensures { result ≡ after_record base.now counts (LogRec.Put unit number) }
 {
-    match value_put(&item_of(scenario, counts.taken)) {
+    match value_put(&item_of(base, counts.taken)) {
         Some(value) => Some(Act::FileWrite(unit, number, value)),
         None => None,
     }
 }
 
-fn follow_record(scenario: &Scenario, counts: Counts, entry: LogRec) -> Option<Act>
-    ensures { result ≡ after_record scenario.now counts entry }
+fn follow_record(base: &Base, counts: Counts, entry: LogRec) -> Option<Act>
+    ensures { result ≡ after_record base.now counts entry }
 {
     match entry {
-        LogRec::Put(unit, number) => write_put(scenario, counts, unit, number),
-        LogRec::Commit(_) => take_item(scenario, counts),
+        LogRec::Put(unit, number) => write_put(base, counts, unit, number),
+        LogRec::Commit(_) => take_item(base, counts),
     }
 }
 
 /// The act that follows another.
-pub(crate) fn act_after(scenario: &Scenario, counts: Counts, act: Act) -> Option<Act>
-    ensures { result ≡ after scenario.now counts act }
+pub(crate) fn act_after(base: &Base, counts: Counts, act: Act) -> Option<Act>
+    ensures { result ≡ after base.now counts act }
 {
     match act {
         Act::StartActive => Some(Act::Reserve),
@@ -137,10 +134,10 @@ pub(crate) fn act_after(scenario: &Scenario, counts: Counts, act: Act) -> Option
         Act::Look2 => Some(Act::Decide(Decided::Nothing)),
         Act::Decide(_) => Some(Act::LogRead(0)),
         Act::LogRead(_) => Some(Act::Restarted),
-        Act::Item(number) => start_item(scenario, counts, item_of(scenario, number)),
+        Act::Item(number) => start_item(base, counts, item_of(base, number)),
         Act::FileRead(number) => { Some(Act::LogBody(counts.records, LogRec::Put(unit(), number))) }
         Act::LogBody(slot, record) => Some(Act::LogOpen(slot, record)),
-        Act::LogOpen(_, record) => follow_record(scenario, counts, record),
-        Act::Restarted | Act::FileWrite(_, _, _) => take_item(scenario, counts),
+        Act::LogOpen(_, record) => follow_record(base, counts, record),
+        Act::Restarted | Act::FileWrite(_, _, _) => take_item(base, counts),
     }
 }

@@ -8,11 +8,12 @@ ghost use Rattle.xrf_world.specs.Runs.{entry, start, step, outcome};
 ghost use Rattle.xrf_world.specs.Standing.{Follows};
 
 use crate::act::Act;
+use crate::base::Base;
 use crate::entry::{Entry, Refused, Who};
 use crate::next::act_after;
 use crate::progress::{Progress, number_given};
-use xrf_base::Inc;
-use xrf_scenario::{Choice, Scenario};
+use xrf_base::{Inc, Site};
+use xrf_forms::Choice;
 
 fn entry_of(number: Inc, act: Act) -> Entry
     ensures { result ≡ entry number act }
@@ -25,11 +26,11 @@ fn entry_of(number: Inc, act: Act) -> Entry
     }
 }
 
-fn next_act(scenario: &Scenario, progress: &Progress) -> Option<Act>
-    ensures { result ≡ option_and_then (after scenario.now progress.now.counts) progress.now.newest }
+fn next_act(base: &Base, progress: &Progress) -> Option<Act>
+    ensures { result ≡ option_and_then (after base.now progress.now.counts) progress.now.newest }
 {
     match progress.newest {
-        Some(act) => act_after(scenario, progress.counts, act),
+        Some(act) => act_after(base, progress.counts, act),
         None => None,
     }
 }
@@ -53,15 +54,12 @@ fn step_entry(number: Inc, act: Option<Act>) -> Result<Entry, Refused>
 }
 
 /// The entry that a choice adds, or why it is refused.
-pub(crate) fn entry_by(
-    scenario: &Scenario,
-    progress: &Progress,
-    choice: &Choice,
-) -> Result<Entry, Refused>
-    ensures { (t : List Entry) → Follows progress.now t → result ≡ outcome scenario.now t choice.now }
+pub(crate) fn entry_by(base: &Base, progress: &Progress, choice: &Choice) -> Result<Entry, Refused>
+    ensures { (t : List Entry) → Follows progress.now t → result ≡ outcome base.now t choice.now }
 {
     match choice {
-        Choice::StartActive => start_entry(&progress.newest),
-        Choice::Step => step_entry(progress.number, next_act(scenario, progress)),
+        Choice::StartActive(Site::A) => start_entry(&progress.newest),
+        Choice::Step(Site::A) => step_entry(progress.number, next_act(base, progress)),
+        _ => Err(Refused::NotEnabled),
     }
 }

@@ -1,8 +1,8 @@
 use super::*;
 use std::alloc::Global;
 use std::test::Fail;
-use xrf_base::{ItemAnswer, UnitId, Value};
-use xrf_scenario::{Choice, read};
+use xrf_base::{ItemAnswer, Site, UnitId, Value};
+use xrf_scenario::{Choice, Forms, read_forms};
 
 const UNIT: &[u8] =
     b"XRF 1\nFILE 2\nRECORD 1 OLD\nWORK A BEGIN U1\nWORK A PUT U1 1 NEW\nWORK A PUT U1 3 OUT\nWORK A COMMIT U1\nCHOICES\nSTEP A\nEND\n";
@@ -10,20 +10,20 @@ const UNIT: &[u8] =
 const U1: UnitId = UnitId { inc: 1, serial: 1 };
 
 fn world(alloc: Global) -> Result<World, Fail> {
-    let (scenario, _) = read(alloc, UNIT)?;
+    let (scenario, _) = read_forms(alloc, Forms::Built, UNIT)?;
     Ok(World::new(alloc, &scenario)?)
 }
 
 // what a choice comes to, while the journal has room
-fn make(world: &mut World, choice: Choice) -> Option<Result<(), Refused>> {
+fn make(world: &mut World, choice: &Choice) -> Option<Result<(), Refused>> {
     if world.journal().len() >= JOURNAL_MOST {
         return None;
     }
-    Some(world.apply(&choice))
+    Some(world.apply(choice))
 }
 
 // whether all of so many choices are made
-fn are_made(world: &mut World, choice: Choice, times: usize) -> bool {
+fn are_made(world: &mut World, choice: &Choice, times: usize) -> bool {
     for _ in 0..times {
         if make(world, choice) != Some(Ok(())) {
             return false;
@@ -55,9 +55,9 @@ fn act(world: &World, k: usize) -> Option<Act> {
 #[test]
 fn a_unit_is_done_and_a_put_outside_the_file_is_not(rt: HostRuntime) -> Result<(), Fail> {
     let mut world = world(rt.alloc())?;
-    assert!(rt; are_made(&mut world, Choice::StartActive, 1));
-    assert!(rt; are_made(&mut world, Choice::Step, 21));
-    assert!(rt; !are_made(&mut world, Choice::Step, 1));
+    assert!(rt; are_made(&mut world, &Choice::StartActive(Site::A), 1));
+    assert!(rt; are_made(&mut world, &Choice::Step(Site::A), 21));
+    assert!(rt; !are_made(&mut world, &Choice::Step(Site::A), 1));
     assert!(rt; world.item_count() == 4);
     assert!(rt; answered(&world, 0, ItemAnswer::Done));
     assert!(rt; answered(&world, 1, ItemAnswer::Done));
@@ -83,8 +83,8 @@ fn a_unit_is_done_and_a_put_outside_the_file_is_not(rt: HostRuntime) -> Result<(
 #[test]
 fn a_put_is_pending_until_its_record_is_written(rt: HostRuntime) -> Result<(), Fail> {
     let mut world = world(rt.alloc())?;
-    assert!(rt; are_made(&mut world, Choice::StartActive, 1));
-    assert!(rt; are_made(&mut world, Choice::Step, 16));
+    assert!(rt; are_made(&mut world, &Choice::StartActive(Site::A), 1));
+    assert!(rt; are_made(&mut world, &Choice::Step(Site::A), 16));
     assert!(rt; state(&world, 1) == Some(ItemState::Pending));
     assert!(rt;
         world.log_counts()
@@ -95,7 +95,7 @@ fn a_put_is_pending_until_its_record_is_written(rt: HostRuntime) -> Result<(), F
             }
     );
     assert!(rt; held(&world, 0) == Some(Value::read(b"OLD")));
-    assert!(rt; are_made(&mut world, Choice::Step, 1));
+    assert!(rt; are_made(&mut world, &Choice::Step(Site::A), 1));
     assert!(rt; answered(&world, 1, ItemAnswer::Done));
     Ok(())
 }
@@ -103,13 +103,13 @@ fn a_put_is_pending_until_its_record_is_written(rt: HostRuntime) -> Result<(), F
 #[test]
 fn a_step_with_no_region_and_a_second_start_are_refused(rt: HostRuntime) -> Result<(), Fail> {
     let mut world = world(rt.alloc())?;
-    assert!(rt; make(&mut world, Choice::Step) == Some(Err(Refused::NotEnabled)));
+    assert!(rt; make(&mut world, &Choice::Step(Site::A)) == Some(Err(Refused::NotEnabled)));
     assert!(rt; world.job() == JobState::Absent);
-    assert!(rt; are_made(&mut world, Choice::StartActive, 1));
-    assert!(rt; !are_made(&mut world, Choice::StartActive, 1));
+    assert!(rt; are_made(&mut world, &Choice::StartActive(Site::A), 1));
+    assert!(rt; !are_made(&mut world, &Choice::StartActive(Site::A), 1));
     assert!(rt; world.journal().len() == 1);
     assert!(rt; world.control().last == 0);
-    assert!(rt; are_made(&mut world, Choice::Step, 3));
+    assert!(rt; are_made(&mut world, &Choice::Step(Site::A), 3));
     assert!(rt; world.control().last == 1);
     assert!(rt; world.job() == JobState::Restarting(1));
     Ok(())

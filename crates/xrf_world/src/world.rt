@@ -1,7 +1,9 @@
 //! The World: the pair, its data sets and the journal of what happened.
 
 ghost use Rattle.std.specs.Prelude.{◌≡◌, ◌+◌, ◌<◌, ◌≤◌, [], ◌∷◌, Ok, IfOk, length, reverse, vec_capacity};
-ghost use Rattle.xrf_scenario.specs.declared.choice.Choice.{Choice};
+ghost use Rattle.xrf_forms.specs.declared.choice.Choice.{Choice};
+ghost use Rattle.xrf_scenario.specs.Built.{IsBuilt};
+ghost use Rattle.xrf_world.specs.Base.{base_of};
 ghost use Rattle.xrf_world.specs.Trace.{taken, log_counts};
 ghost use Rattle.xrf_world.specs.Trace as trace;
 ghost use Rattle.xrf_world.specs.Items.{answer, state_of};
@@ -10,6 +12,7 @@ ghost use Rattle.xrf_world.specs.Standing.{IsWorld, KeptByNumber};
 
 use crate::act::Control;
 use crate::answers::{answer_at, state_by};
+use crate::base::Base;
 use crate::entry::{Entry, Refused, push_entry};
 use crate::kept::Kept;
 use crate::outcome::entry_by;
@@ -17,16 +20,17 @@ use crate::state::{ItemState, JobState, LogCounts};
 use std::alloc::{AllocError, Global};
 use std::marker::Model;
 use xrf_base::Value;
-use xrf_scenario::{Choice, Scenario};
+use xrf_forms::Choice;
+use xrf_scenario::Scenario;
 
 /// How many entries a journal has at most.
 pub const JOURNAL_MOST: usize = 8192;
 
-/// A scenario at work. Contracts see the scenario and the trace, the newest entry first (`Run` of
+/// A scenario at work. Contracts see what runs of it and the trace, the newest entry first (`Run` of
 /// the specs).
 #[derive(Drop)]
 pub struct World {
-    scenario: Scenario,
+    base: Base,
     // oldest first
     journal: Vec<Entry>,
     kept: Kept,
@@ -38,21 +42,21 @@ impl Model for World {
 
     ghost Value = { Run };
 
-    ghost view = { λ w. record { scenario = w.scenario; trace = reverse w.journal.items } };
+    ghost view = { λ w. record { scenario = w.base; trace = reverse w.journal.items } };
 
     ghost use Rattle.xrf_world.specs.Standing.{IsWorld};
 
-    ghost invariant = { λ w. IsWorld w.scenario w.journal.items (vec_capacity w.journal) w.kept };
+    ghost invariant = { λ w. IsWorld w.base w.journal.items (vec_capacity w.journal) w.kept };
 }
 
-fn add_entry(scenario: &Scenario, journal: &mut Vec<Entry>, kept: &mut Kept, entry: &Entry)
-    requires world { IsWorld scenario.now journal.old.items (vec_capacity journal.old) kept.old }
-    requires made { (c : Choice) × (outcome scenario.now (reverse journal.old.items) c ≡ Ok entry.now) }
+fn add_entry(base: &Base, journal: &mut Vec<Entry>, kept: &mut Kept, entry: &Entry)
+    requires world { IsWorld base.now journal.old.items (vec_capacity journal.old) kept.old }
+    requires made { (c : Choice) × (outcome base.now (reverse journal.old.items) c ≡ Ok entry.now) }
     requires room { length journal.old.items < 8192 }
-    ensures world { IsWorld scenario.now journal.new.items (vec_capacity journal.new) kept.new }
+    ensures world { IsWorld base.now journal.new.items (vec_capacity journal.new) kept.new }
     ensures trace { reverse journal.new.items ≡ entry.now ∷ reverse journal.old.items }
 {
-    kept.add(scenario, entry);
+    kept.add(base, entry);
     push_entry(journal, entry);
 }
 
@@ -61,12 +65,22 @@ impl World {
 
     /// A World before the first choice. It takes all memory that a run needs.
     pub fn new(alloc: Global, scenario: &Scenario) -> Result<World, AllocError>
-        ensures { IfOk result (λ world. world ≡ record { scenario = scenario.now; trace = [] }) }
+        requires built { IsBuilt scenario.now }
+        ensures { IfOk result (λ world. world ≡ record { scenario = base_of scenario.now; trace = [] }) }
     {
+        World::of_base(alloc, Base::new(alloc, scenario)?)
+    }
+
+    // of what runs
+    fn of_base(alloc: Global, base: Base) -> Result<World, AllocError>
+        ensures { IfOk result (λ world. world ≡ record { scenario = base; trace = [] }) }
+    {
+        let journal = Vec::with_capacity(alloc, JOURNAL_MOST)?;
+        let kept = Kept::new(alloc, &base)?;
         Ok(World {
-            scenario: scenario.copy()?,
-            journal: Vec::with_capacity(alloc, JOURNAL_MOST)?,
-            kept: Kept::new(alloc, scenario)?,
+            base,
+            journal,
+            kept,
         })
     }
 
@@ -76,20 +90,13 @@ impl World {
         requires room { length self.old.trace < 8192 }
         ensures applied { Applied self.old choice.now result self.new }
     {
-        match entry_by(&self.scenario, &self.kept.progress, choice) {
+        match entry_by(&self.base, &self.kept.progress, choice) {
             Ok(entry) => {
-                add_entry(&self.scenario, &mut self.journal, &mut self.kept, &entry);
+                add_entry(&self.base, &mut self.journal, &mut self.kept, &entry);
                 Ok(())
             }
             Err(refused) => Err(refused),
         }
-    }
-
-    /// The scenario that is run.
-    pub fn scenario(&self) -> &Scenario
-        ensures { result.now ≡ self.now.scenario }
-    {
-        &self.scenario
     }
 
     /// The journal, the oldest entry first: that of a run.

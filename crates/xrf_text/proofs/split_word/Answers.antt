@@ -1,12 +1,12 @@
-use Rattle.std.proofs.Common.{arith, ◌∙◌, sym}
-use Rattle.xrf_text.proofs.Places.{position_or_len-le}
+use Rattle.std.proofs.Common.{arith, not, ◌∙◌, sym}
+use Rattle.std.proofs.lemmas.List.Sums.{prefix_len-le-length}
 use Rattle.xrf_text.proofs.Words.{at_first_blank, cut_word}
 use Rattle.xrf_text.specs.Text.{is_blank}
 use Rattle.xrf_text.proofs.split_word.Goals as goal
 
 pub split_at-requires : goal.split_at-requires
 split_at-requires c =
-    omega (arith, at_first_blank _ _ _ c.first_blank.ensures c.unwrap_or-end.ensures, position_or_len-le is_blank c.from_first_word-rest.result.now)
+    omega (arith, at_first_blank _ _ _ c.first_blank.ensures c.unwrap_or-end.ensures, prefix_len-le-length (λ b. not (is_blank b)) c.from_first_word-rest.result.now)
 
 pub returns-clause-first : goal.returns-clause-first
 returns-clause-first c =

@@ -2,7 +2,8 @@ use Rattle.std.proofs.Common.{◌<◌, ℕ, List, Err, ap, subst}
 use Rattle.xrf_edge.specs.Ends.{came}
 use Rattle.xrf.specs.Made.{IsMade}
 use Rattle.xrf.specs.Answer.{End}
-use Rattle.xrf.specs.declared.refusal.Reason.TheVariants.{TooLarge}
+use Rattle.xrf.specs.declared.refusal.Reason.TheVariants.{Grammar}
+use Rattle.xrf_forms.specs.declared.reason.Reason.TheVariants.{TooLarge}
 use Rattle.xrf.proofs.AnswerLaws.{replayed, refused, too_large, if-some}
 use Rattle.xrf.proofs.top.replay.Goals as goal
 
@@ -21,6 +22,6 @@ returns-in-Err-TooLarge g c =
     let source' : End = record { bytes = g.S.Source.left c.read_all.new.source; faults = g.S.Source.faults c.read_all.new.source } in
     let sink : End = record { bytes = g.K.Sink.held c.args.sink.now; faults = g.K.Sink.faults c.args.sink.now } in
     let sink' : End = record { bytes = g.K.Sink.held c.refuse.new.sink; faults = g.K.Sink.faults c.refuse.new.sink } in
-    refused source source' sink sink' 0 TooLarge c.refuse.result
+    refused source source' sink sink' 0 (Grammar TooLarge) c.refuse.result
     (too_large source source' (if-some _ (λ (bytes : List ℕ). 4194304 < came source.bytes source'.bytes) source.bytes (λ bytes both. both.0 (ap Err c.in-Err-TooLarge.field-0-is)) c.in-Err-TooLarge.ensures.too_large))
     c.refuse.ensures

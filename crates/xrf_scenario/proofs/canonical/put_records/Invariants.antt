@@ -1,10 +1,7 @@
-use Rattle.std.proofs.Common.{◌≡◌, ◌++◌, ◌+◌, drop}
-use Rattle.xrf_scenario.specs.Canonical.{records_text}
+use Rattle.std.proofs.Common.{◌≡◌, ◌++◌, take}
+use Rattle.xrf_scenario.specs.Canonical.{text_of, records_said}
 use Rattle.xrf_scenario.proofs.canonical.put_records.Given as goal
 
--- the records so far and those of the places left are the records
-abbrev pub invariant-loop-place : goal.invariant-loop-place
-invariant-loop-place l = record {
-  whole : l.out.items ++ records_text l.number (drop l.place-index l.records) ≡ l.fn.out.items ++ records_text 1 l.fn.records;
-  place : l.number ≡ l.place-index + 1;
-}
+-- the lines so far stand behind what was there
+abbrev pub invariant-loop-number : goal.invariant-loop-number
+invariant-loop-number l = l.out.items ≡ l.fn.out.items ++ text_of (records_said (take l.number-index l.records))

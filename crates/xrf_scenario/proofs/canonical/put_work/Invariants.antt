@@ -1,7 +1,10 @@
-use Rattle.std.proofs.Common.{◌≡◌, ◌++◌, take}
-use Rattle.xrf_scenario.specs.Canonical.{work_text}
+use Rattle.std.proofs.Common.{◌≡◌, ◌++◌, map, take}
+use Rattle.xrf_base.specs.declared.items.Item.{Item}
+use Rattle.xrf_forms.specs.LineText.{line_text}
+use Rattle.xrf_forms.specs.declared.line.Line.TheVariants.{Work}
+use Rattle.xrf_scenario.specs.Canonical.{text_of}
 use Rattle.xrf_scenario.proofs.canonical.put_work.Given as goal
 
--- the lines of the items so far stand behind what was there
+-- the lines so far stand behind what was there
 abbrev pub invariant-loop-item : goal.invariant-loop-item
-invariant-loop-item l = l.out.items ≡ l.fn.out.items ++ work_text (take l.item-index l.work)
+invariant-loop-item l = l.out.items ≡ l.fn.out.items ++ text_of (map (λ (i : Item). line_text (Work l.site i)) (take l.item-index l.work))

@@ -1,4 +1,4 @@
-use Rattle.xrf_scenario.proofs.TextLaws.{one_reading, never_both, one_fault}
+use Rattle.xrf_scenario.proofs.ReadingLaws.{one_reading, never_both, one_fault}
 use Rattle.xrf_scenario.proofs.text.one_reading.Goals as goal
 
 pub returns-clause-one_reading : goal.returns-clause-one_reading

@@ -1,10 +1,8 @@
-use Rattle.std.proofs.Common.{ℕ, subst, sym}
-use Rattle.xrf_scenario.specs.Scenario.{IsScen}
-use Rattle.xrf_scenario.specs.Said.{said}
-use Rattle.xrf_scenario.proofs.TextLaws.{scenario-said}
+use Rattle.xrf_scenario.specs.Held.{said}
+use Rattle.xrf_scenario.proofs.HeldLaws.{scenario-held}
 use Rattle.xrf_scenario.proofs.text.parts.Goals as goal
 
-pub new-requires : goal.new-requires
-new-requires c =
-    subst (λ (f : ℕ). IsScen (record { file = f; records = c.args.reading.records.items; work = c.args.reading.work.items })) (sym c.file_or_default-file.ensures)
-    (scenario-said (said c.args.reading) c.requires.said c.requires.whole)
+pub new-scenario-requires : goal.new-scenario-requires
+new-scenario-requires c =
+    scenario-held (said c.args.reading) c.settled-settings.result c.in_ok-records.records.items c.deref.result.now c.settled-settings.ensures c.in_ok-records.ensures c.deref.ensures.value
+    c.requires.said c.requires.whole

@@ -1,0 +1,149 @@
+-- What a plain line says, and what several lines say one after the other.
+use Rattle.std.proofs.Common.{◌≡◌, ◌≤◌, ◌+◌, ℕ, Bool, true, false, IsTrue, ◌==◌, ◌||◌, None, Ok, List, [], ◌∷◌, ◌++◌, append_assoc, append-nil, filter, map, length, refl, sym, ◌∙◌, ap, arith, subst}
+use Rattle.std.specs.List.{slice_split, onto_first, list_all, AllByRecursion}
+use Rattle.std.specs.Cmp.Derive.{both_true}
+use Rattle.std.proofs.lemmas.Bool.{le-leb, le-ltb}
+use Rattle.std.proofs.lemmas.List.{length_push}
+use Rattle.xrf_text.specs.Text.{words, is_blank, is_filled}
+use Rattle.xrf_forms.specs.declared.form.Format.{Format}
+use Rattle.xrf_forms.specs.declared.line.Line.{Line}
+use Rattle.xrf_forms.specs.Grammar.{Spells}
+use Rattle.xrf_forms.specs.LineText.{IsIn, IsSetting, IsChoosing, header_text, line_text}
+use Rattle.xrf_forms.specs.Plain.{IsPlain}
+use Rattle.xrf_forms.specs.Table.{settings_of, choices_table}
+use Rattle.xrf_forms.proofs.FormLaws.{line-found}
+use Rattle.xrf_forms.proofs.LineAgain.{header_plain, setting_plain, setting_again, choosing_plain, choosing_again}
+use Rattle.xrf_scenario.specs.Built.{allows, allows_format}
+use Rattle.xrf_scenario.specs.Canonical.{IsReportLine}
+use Rattle.xrf_scenario.specs.Lines.{begins_with, are_none, is_skipped, is_report, is_text_byte, bytes_fault}
+use Rattle.xrf_scenario.specs.Reading.{begun, SaysIn, SaysThen, Says, SaysAll}
+use Rattle.xrf_scenario.specs.SoFar.{SoFar, is_whole}
+use Rattle.xrf_scenario.specs.Taking.{take}
+use Rattle.xrf_scenario.specs.declared.built.Forms.{Forms}
+use Rattle.xrf_scenario.specs.declared.given.Part.{Part}
+use Rattle.xrf_scenario.specs.declared.given.Part.TheVariants.{Start, Settings, Making}
+use Rattle.xrf_scenario.proofs.TextLaws.{IsClean, other}
+
+-- what holds of each element by one fact holds by another that follows
+pub all-then : {X : Type 0} (P Q : X → Type 0) → ((x : X) → P x → Q x) → (xs : List X) → AllByRecursion P xs → AllByRecursion Q xs
+all-then P Q follows [] all = tt
+all-then P Q follows (x ∷ xs) all = (follows x all.0, all-then P Q follows xs all.1)
+
+-- a plain line has no byte below a blank
+pub plain-clean : (line : List ℕ) → IsPlain line → IsClean line
+plain-clean line plain = all-then (IsIn 32 126) (λ (b : ℕ). 32 ≤ b) (λ (b : ℕ) (h : IsIn 32 126 b). h.0) line plain.bytes
+
+-- bytes from blank to `~` pass the test
+bytes-pass : (line : List ℕ) → AllByRecursion (IsIn 32 126) line → list_all is_text_byte line ≡ true
+bytes-pass [] all = refl
+bytes-pass (b ∷ bs) all = both_true (both_true (le-leb 32 b all.0.0) (le-leb b 126 all.0.1)) (bytes-pass bs all.1)
+
+-- no byte of a plain line is wrong
+plain-faultless : (line : List ℕ) → IsPlain line → bytes_fault line ≡ None
+plain-faultless line plain = rw (bytes-pass line plain.bytes) (rw (le-ltb 300 (length line) plain.short) refl)
+
+-- a line that begins with a byte that is no blank has a word
+has-word : (b : ℕ) (bs : List ℕ) → is_blank b ≡ false → are_none (words (b ∷ bs)) ≡ false
+has-word b bs letter = rw letter (by (slice_split is_blank bs))
+  where
+    by : (parts : List (List ℕ)) → are_none (filter is_filled (onto_first b parts)) ≡ false
+    by [] = refl
+    by (part ∷ parts) = refl
+
+-- a plain line is not skipped
+plain-not_skipped : (line : List ℕ) → IsPlain line → is_skipped line ≡ false
+plain-not_skipped line plain =
+    let low : 65 ≤ plain.first = plain.letter.0 in
+    let unmarked : (plain.first == 35) ≡ false = other plain.first 35 (λ (e : plain.first ≡ 35). absurd (omega (arith, e, low))) in
+    let filled : (plain.first == 32) ≡ false = other plain.first 32 (λ (e : plain.first ≡ 32). absurd (omega (arith, e, low))) in
+    subst (λ (l : List ℕ). is_skipped l ≡ false) (sym plain.starts) (ap (λ (t : Bool). t || are_none (words (plain.first ∷ plain.rest))) unmarked ∙ has-word plain.first plain.rest filled)
+
+-- a plain line says what its words say
+pub plain-says : (forms : Forms) (number : ℕ) (so : SoFar) (line : List ℕ) (next : SoFar) → IsPlain line → is_whole so.part ≡ false
+    → SaysIn so.part forms number so (words line) next → Says forms number so line next
+plain-says forms number so line next plain early says =
+    subst (λ (t : Bool). SaysThen t (is_whole so.part) forms number so line next) (sym (plain-not_skipped line plain))
+    (subst (λ (t : Bool). SaysThen false t forms number so line next) (sym early) (plain-faultless line plain, says))
+
+-- a plain line before the choices says what its words spell
+pub setting-says : (forms : Forms) (number : ℕ) (so : SoFar) (text : List ℕ) (line : Line) (next : SoFar) → IsPlain text → so.part ≡ Settings
+    → Spells (settings_of so.format) (words text) line → IsTrue (allows forms so line) → take number so (words text) line ≡ Ok next → Says forms number so text next
+setting-says forms number so text line next plain part spells allowed takes =
+    plain-says forms number so text next plain (ap is_whole part) (subst (λ (p : Part). SaysIn p forms number so (words text) next) (sym part) (line, (spells, allowed, takes)))
+
+-- so does one of the choices
+pub choosing-says : (forms : Forms) (number : ℕ) (so : SoFar) (text : List ℕ) (line : Line) (next : SoFar) → IsPlain text → so.part ≡ Making
+    → Spells choices_table (words text) line → IsTrue (allows forms so line) → take number so (words text) line ≡ Ok next → Says forms number so text next
+choosing-says forms number so text line next plain part spells allowed takes =
+    plain-says forms number so text next plain (ap is_whole part) (subst (λ (p : Part). SaysIn p forms number so (words text) next) (sym part) (line, (spells, allowed, takes)))
+
+-- what is written of the header says the format
+pub header-written : (forms : Forms) (number : ℕ) (so : SoFar) (format : Format) → so.part ≡ Start → IsTrue (allows_format forms format)
+    → Says forms number so (header_text format) (begun so format)
+header-written forms number so format part allowed =
+    plain-says forms number so (header_text format) (begun so format) (header_plain format) (ap is_whole part)
+    (subst (λ (p : Part). SaysIn p forms number so (words (header_text format)) (begun so format)) (sym part) (format, (refl, allowed, refl)))
+
+-- what is written of a line before the choices says this line
+pub setting-written : (forms : Forms) (number : ℕ) (so : SoFar) (line : Line) (next : SoFar) → so.part ≡ Settings → IsSetting so.format line
+    → IsTrue (allows forms so line) → take number so (words (line_text line)) line ≡ Ok next → Says forms number so (line_text line) next
+setting-written forms number so line next part is allowed takes =
+    setting-says forms number so (line_text line) line next (setting_plain so.format line is) part
+    (line-found (settings_of so.format) (words (line_text line)) line (setting_again so.format line is)) allowed takes
+
+-- so does what is written of one of the choices
+pub choosing-written : (forms : Forms) (number : ℕ) (so : SoFar) (line : Line) (next : SoFar) → so.part ≡ Making → IsChoosing line
+    → IsTrue (allows forms so line) → take number so (words (line_text line)) line ≡ Ok next → Says forms number so (line_text line) next
+choosing-written forms number so line next part is allowed takes =
+    choosing-says forms number so (line_text line) line next (choosing_plain line is) part
+    (line-found choices_table (words (line_text line)) line (choosing_again line is)) allowed takes
+
+-- lines say what the first of them and then the others say
+pub both-say : (forms : Forms) (count : ℕ) (so : SoFar) (ls ms : List (List ℕ)) (mid last : SoFar) → SaysAll forms count so ls mid → SaysAll forms (count + length ls) mid ms last
+    → SaysAll forms count so (ls ++ ms) last
+both-say forms count so [] ms mid last first second =
+    let none : count + 0 ≡ count = omega arith in
+    subst (λ (s : SoFar). SaysAll forms count s ms last) first (subst (λ (n : ℕ). SaysAll forms n mid ms last) none second)
+both-say forms count so (line ∷ ls) ms mid last first second =
+    let more : count + length (line ∷ ls) ≡ count + 1 + length ls = omega arith in
+    (first.0, (first.1.0, both-say forms (count + 1) first.0 ls ms mid last first.1.1 (subst (λ (n : ℕ). SaysAll forms n mid ms last) more second)))
+
+-- Lines, one for each element of a list, say what is said with all elements, where each says what
+-- is said with one more.
+pub each-says : {X : Type 0} (forms : Forms) (count : ℕ) (text : X → List ℕ) (with : List X → SoFar) (all : List X)
+    → ((done : List X) (x : X) (rest : List X) → all ≡ done ++ x ∷ rest → Says forms (count + length done + 1) (with done) (text x) (with (done ++ x ∷ [])))
+    → (done rest : List X) → all ≡ done ++ rest → SaysAll forms (count + length done) (with done) (map text rest) (with all)
+each-says forms count text with all step done [] split = ap with (split ∙ append-nil done)
+each-says forms count text with all step done (x ∷ rest) split =
+    let more : count + length (done ++ x ∷ []) ≡ count + length done + 1 = omega (arith, length_push done x) in
+    let says = each-says forms count text with all step (done ++ x ∷ []) rest (split ∙ sym (append_assoc done (x ∷ []) rest)) in
+    (with (done ++ x ∷ []), (step done x rest split, subst (λ (n : ℕ). SaysAll forms n (with (done ++ x ∷ [])) (map text rest) (with all)) more says))
+
+-- the same, from none of the elements on
+pub all-say : {X : Type 0} (forms : Forms) (count : ℕ) (text : X → List ℕ) (with : List X → SoFar) (all : List X)
+    → ((done : List X) (x : X) (rest : List X) → all ≡ done ++ x ∷ rest → Says forms (count + length done + 1) (with done) (text x) (with (done ++ x ∷ [])))
+    → SaysAll forms count (with []) (map text all) (with all)
+all-say forms count text with all step =
+    let none : count + 0 ≡ count = omega arith in
+    subst (λ (n : ℕ). SaysAll forms n (with []) (map text all) (with all)) none (each-says forms count text with all step [] all refl)
+
+-- what holds of all elements holds of the one behind some
+pub all-at : {X : Type 0} (P : X → Type 0) (done : List X) (x : X) (rest : List X) → AllByRecursion P (done ++ x ∷ rest) → P x
+all-at P [] x rest all = all.0
+all-at P (y ∷ done) x rest all = all-at P done x rest all.1
+
+-- Behind END the lines of a report say nothing more.
+pub report-says : (forms : Forms) (count : ℕ) (so : SoFar) (ls : List (List ℕ)) → is_whole so.part ≡ true → AllByRecursion IsReportLine ls → SaysAll forms count so ls so
+report-says forms count so [] whole all = refl
+report-says forms count so (line ∷ ls) whole all = (so, (by (is_skipped line), report-says forms (count + 1) so ls whole all.1))
+  where
+    marked : IsTrue (is_report line)
+    marked = ap (begins_with 42) all.0.marked
+
+    by : (t : Bool) → SaysThen t (is_whole so.part) forms (count + 1) so line so
+    by true = refl
+    by false = subst (λ (t : Bool). SaysThen false t forms (count + 1) so line so) (sym whole) (marked, refl)
+
+-- and they have no byte below a blank
+pub report-clean : (line : List ℕ) → IsReportLine line → IsClean line
+report-clean line is = let low : 32 ≤ 42 = omega arith in subst IsClean (sym is.marked) (low, is.bytes)

@@ -1,0 +1,8 @@
+use Rattle.std.proofs.Common.{◌≡◌, ◌++◌, map, take}
+use Rattle.xrf_forms.specs.LineText.{line_text}
+use Rattle.xrf_scenario.specs.Canonical.{text_of}
+use Rattle.xrf_scenario.proofs.canonical.put_lines.Given as goal
+
+-- the lines so far stand behind what was there
+abbrev pub invariant-loop-line : goal.invariant-loop-line
+invariant-loop-line l = l.out.items ≡ l.fn.out.items ++ text_of (map line_text (take l.line-index l.lines))

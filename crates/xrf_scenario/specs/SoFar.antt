@@ -1,0 +1,44 @@
+-- What the lines so far say.
+use Rattle.std.specs.Prelude.{ℕ, Bool, true, false, List, [], replicate, Option, None, unwrap_or}
+use Rattle.xrf_base.specs.declared.items.Item.{Item}
+use Rattle.xrf_clt.specs.Kept.{Kept}
+use Rattle.xrf_forms.specs.declared.choice.Choice.{Choice}
+use Rattle.xrf_forms.specs.declared.form.Format.{Format}
+use Rattle.xrf_forms.specs.declared.form.Format.TheVariants.{One}
+use Rattle.xrf_scenario.specs.declared.given.Given.{Given}
+use Rattle.xrf_scenario.specs.declared.given.Part.{Part}
+use Rattle.xrf_scenario.specs.declared.given.Part.TheVariants.{Start, Whole}
+use Rattle.xrf_scenario.specs.declared.numbered.Numbered.{Numbered}
+
+pub record SoFar : Type 0 where
+  -- the part of the text that the next line is of
+  pub part : Part
+  pub format : Format
+  -- the settings that lines gave
+  pub given : Given
+  -- 256 places: record n stands at n - 1
+  pub records : List (Option (List ℕ))
+  pub clt : List Kept
+  pub work_a : List Item
+  pub work_b : List Item
+  -- ticks and choices
+  pub plan : List (ℕ × Choice)
+  pub choices : List Numbered
+
+abbrev pub nothing_given : Given
+nothing_given = record { applid_a = None; applid_b = None; takeovr = None; adi = None; pdi = None; log = None; ring = None; file = None; pace = None; ticks = None; images = None; level_a = None; level_b = None; force = None }
+
+-- before the first line
+abbrev pub nothing_said : SoFar
+nothing_said = record { part = Start; format = One; given = nothing_given; records = replicate 256 None; clt = []; work_a = []; work_b = []; plan = []; choices = [] }
+
+abbrev pub is_whole : Part → Bool
+is_whole Whole = true
+is_whole _ = false
+
+-- FILE, which is 16 where no line gives it
+abbrev pub file_of : Given → ℕ
+file_of given = unwrap_or given.file 16
+
+abbrev pub file_said : SoFar → ℕ
+file_said so = file_of so.given

@@ -1,0 +1,62 @@
+//! The settings of what is said, with the defaults of those that no line gave.
+
+ghost use Rattle.std.specs.Prelude.{◌≡◌, unwrap_or};
+ghost use Rattle.xrf_base.specs.Names.{IsName};
+ghost use Rattle.xrf_scenario.specs.Scenario.{level_of, settled};
+
+use crate::given::Given;
+use crate::settings::Settings;
+use xrf_base::{Name8, Takeovr};
+use xrf_forms::Format;
+
+fn name_or(given: Option<Name8>, default: &[u8]) -> Name8
+    requires { IsName default.now }
+    ensures { result ≡ unwrap_or given default.now }
+{
+    match given {
+        Some(name) => name,
+        None => named(default),
+    }
+}
+
+fn named(text: &[u8]) -> Name8
+    requires { IsName text.now }
+    ensures { result ≡ text.now }
+{
+    match Name8::read(text) {
+        Some(name) => name,
+        None => unreachable!(),
+    }
+}
+
+fn level_of(format: Format, given: Option<u16>) -> u16
+    ensures { result ≡ level_of format given }
+{
+    match format {
+        Format::One => 1,
+        Format::Two => given.unwrap_or(2),
+    }
+}
+
+/// The settings of a text of this format that gives these.
+pub fn settled(format: Format, given: &Given) -> Settings
+    ensures { result ≡ settled format given.now }
+{
+    Settings {
+        format,
+        applid_a: name_or(given.applid_a, b"CICSA"),
+        applid_b: name_or(given.applid_b, b"CICSB"),
+        takeovr: given.takeovr.unwrap_or(Takeovr::Manual),
+        adi: given.adi.unwrap_or(30),
+        pdi: given.pdi.unwrap_or(30),
+        log: given.log.unwrap_or(64),
+        ring: given.ring.unwrap_or(16),
+        file: given.file_or_default(),
+        pace: given.pace.unwrap_or(40),
+        ticks: given.ticks.unwrap_or(60),
+        images: given.images.unwrap_or(false),
+        level_a: level_of(format, given.level_a),
+        level_b: level_of(format, given.level_b),
+        force: given.force.unwrap_or(false),
+    }
+}

@@ -1,0 +1,144 @@
+//! One line of a text, in the part of the text that it is of.
+
+ghost use Rattle.std.specs.Prelude.{◌≡◌, None, Ok};
+ghost use Rattle.xrf_forms.specs.Reading.{header_of, line_of};
+ghost use Rattle.xrf_forms.specs.Table.{settings_of, choices_table};
+ghost use Rattle.xrf_scenario.specs.Held.{said, Tells};
+ghost use Rattle.xrf_scenario.specs.Lines.{bytes_fault};
+ghost use Rattle.xrf_scenario.specs.Machine.{take_header, take_line, take_words, step};
+ghost use Rattle.xrf_scenario.specs.Said.{IsSaid, IsLineSaid};
+ghost use Rattle.xrf_scenario.specs.SoFar.{is_whole};
+ghost use Rattle.xrf_text.specs.Text.{words};
+
+use crate::built::{Forms, allows, allows_format};
+use crate::given::Part;
+use crate::lines::{bytes_fault, is_report, is_skipped};
+use crate::reading::Reading;
+use crate::stop::Stop;
+use std::alloc::Global;
+use xrf_forms::{Line, Reason, read_choice, read_header, read_setting};
+
+/// Whether END has come.
+pub fn is_whole(part: Part) -> bool
+    ensures { result ≡ is_whole part }
+{
+    matches!(part, Part::Whole)
+}
+
+impl Reading {
+    fn take_header(&mut self, forms: Forms, text: &[u8]) -> Result<(), Stop>
+        ensures { Tells result (said self.new) (take_header forms (said self.old) (header_of (words text.now))) }
+    {
+        match read_header(text) {
+            Ok(format) => {
+                if !allows_format(forms, format) {
+                    return Err(Stop::Fault(Reason::NotBuilt));
+                }
+                self.part = Part::Settings;
+                self.format = format;
+                Ok(())
+            }
+            Err(reason) => Err(Stop::Fault(reason)),
+        }
+    }
+
+    // what is not built comes behind all other reasons
+    fn take_line(
+        &mut self,
+        alloc: Global,
+        forms: Forms,
+        number: u32,
+        text: &[u8],
+        line: &Line,
+    ) -> Result<(), Stop>
+        requires said { IsSaid (said self.old) }
+        requires line { IsLineSaid (said self.old).format (words text.now) line.now }
+        ensures { Tells result (said self.new) (take_line forms number (said self.old) (words text.now) (Ok line.now)) }
+    {
+        let allowed = allows(forms, self, line);
+        self.take(alloc, number, text, line)?;
+        if !allowed {
+            return Err(Stop::Fault(Reason::NotBuilt));
+        }
+        Ok(())
+    }
+
+    fn take_setting_line(
+        &mut self,
+        alloc: Global,
+        forms: Forms,
+        number: u32,
+        text: &[u8],
+    ) -> Result<(), Stop>
+        requires said { IsSaid (said self.old) }
+        requires bytes { bytes_fault text.now ≡ None }
+        ensures { Tells result (said self.new) (take_line forms number (said self.old) (words text.now) (line_of (settings_of (said self.old).format) (words text.now))) }
+    {
+        match read_setting(self.format, text) {
+            Ok(line) => self.take_line(alloc, forms, number, text, &line),
+            Err(reason) => Err(Stop::Fault(reason)),
+        }
+    }
+
+    fn take_choice_line(
+        &mut self,
+        alloc: Global,
+        forms: Forms,
+        number: u32,
+        text: &[u8],
+    ) -> Result<(), Stop>
+        requires { IsSaid (said self.old) }
+        ensures { Tells result (said self.new) (take_line forms number (said self.old) (words text.now) (line_of choices_table (words text.now))) }
+    {
+        match read_choice(text) {
+            Ok(line) => self.take_line(alloc, forms, number, text, &line),
+            Err(reason) => Err(Stop::Fault(reason)),
+        }
+    }
+
+    fn take_words(
+        &mut self,
+        alloc: Global,
+        forms: Forms,
+        number: u32,
+        text: &[u8],
+    ) -> Result<(), Stop>
+        requires said { IsSaid (said self.old) }
+        requires bytes { bytes_fault text.now ≡ None }
+        ensures { Tells result (said self.new) (take_words (said self.old).part forms number (said self.old) (words text.now)) }
+    {
+        match self.part {
+            Part::Start => self.take_header(forms, text),
+            Part::Settings => self.take_setting_line(alloc, forms, number, text),
+            Part::Making => self.take_choice_line(alloc, forms, number, text),
+            Part::Whole => Err(Stop::Fault(Reason::AfterEnd)),
+        }
+    }
+
+    /// Takes the next line, which has this number, or answers why it may not come. After that answer
+    /// the reading is of no more use.
+    pub fn step(
+        &mut self,
+        alloc: Global,
+        forms: Forms,
+        number: u32,
+        line: &[u8],
+    ) -> Result<(), Stop>
+        requires { IsSaid (said self.old) }
+        ensures { Tells result (said self.new) (step forms number (said self.old) line.now) }
+    {
+        if is_skipped(line) {
+            return Ok(());
+        }
+        if is_whole(self.part) {
+            if is_report(line) {
+                return Ok(());
+            }
+            return Err(Stop::Fault(Reason::AfterEnd));
+        }
+        match bytes_fault(line) {
+            Some(reason) => Err(Stop::Fault(reason)),
+            None => self.take_words(alloc, forms, number, line),
+        }
+    }
+}

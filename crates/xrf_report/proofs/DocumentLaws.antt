@@ -4,7 +4,9 @@ use Rattle.std.proofs.lemmas.List.{length-append}
 use Rattle.xrf_forms.specs.declared.choice.Choice.{Choice}
 use Rattle.xrf_scenario.proofs.CanonLaws.{read_again}
 use Rattle.xrf_scenario.proofs.PlainLaws.{file-most}
+use Rattle.xrf_scenario.proofs.WorkLaws.{unit-length}
 use Rattle.xrf_scenario.specs.Built.{AreAllowed}
+use Rattle.xrf_scenario.specs.Work.{puts_in}
 use Rattle.xrf_scenario.specs.Canonical.{canon, at_lines, AreChoices}
 use Rattle.xrf_scenario.specs.Reading.{Reads}
 use Rattle.xrf_scenario.specs.Scenario.{Scen, IsScen}
@@ -38,7 +40,8 @@ run-told s choices t is are built ran fits =
     let long : length t ≡ length choices = runs.1 in
     let few : length choices ≤ 8192 = are.few in
     let within : taken t ≤ length s.work_a = taken_within (base_of s) t runs.0 in
-    let items : length s.work_a ≤ 62 = built.0.few in
+    let sized : length s.work_a ≤ puts_in s.work_a + 2 = unit-length s.work_a built.0.work_a in
+    let items : length s.work_a ≤ 62 = omega (arith, sized, built.0.puts) in
     report-told (base_of s) t (omega arith) (omega arith) (file-most s is) fits
 
 -- a document, by its parts

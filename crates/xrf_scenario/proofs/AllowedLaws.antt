@@ -1,8 +1,8 @@
 -- All lines of a scenario and choices that may come may come.
-use Rattle.std.proofs.Common.{◌≡◌, ℕ, true, not, IsTrue, List, [], ◌∷◌, ◌++◌, append_assoc, length, refl, sym, ◌∙◌, ap, arith}
+use Rattle.std.proofs.Common.{◌≡◌, ◌+◌, ℕ, true, not, IsTrue, List, [], ◌∷◌, ◌++◌, append_assoc, length, refl, sym, ◌∙◌, ap, arith}
 use Rattle.std.specs.List.{AllByRecursion}
 use Rattle.std.specs.Cmp.Derive.{both_true}
-use Rattle.std.proofs.lemmas.Bool.{lt-ltb}
+use Rattle.std.proofs.lemmas.Bool.{le-leb}
 use Rattle.xrf_base.specs.declared.items.Item.{Item}
 use Rattle.xrf_base.specs.declared.site.Site.TheVariants.{A, B}
 use Rattle.xrf_forms.specs.declared.choice.Choice.{Choice}
@@ -10,11 +10,11 @@ use Rattle.xrf_forms.specs.declared.line.Line.TheVariants.{Images, Work, Plan, O
 use Rattle.xrf_scenario.specs.Built.{is_built_format, is_built_choice, allows, allows_format, IsBuilt, AreBuilt, AreAllowed}
 use Rattle.xrf_scenario.specs.Scenario.{Scen}
 use Rattle.xrf_scenario.specs.SoFar.{SoFar}
-use Rattle.xrf_scenario.specs.Work.{is_work}
+use Rattle.xrf_scenario.specs.Work.{is_work, put_count, puts_in}
 use Rattle.xrf_scenario.specs.declared.built.Forms.{Forms}
 use Rattle.xrf_scenario.specs.declared.built.Forms.TheVariants.{All, Built}
 use Rattle.xrf_scenario.proofs.StepLaws.{all-then}
-use Rattle.xrf_scenario.proofs.WorkLaws.{with_work_a, with_work_b, with_plan, before-fewer, work-before}
+use Rattle.xrf_scenario.proofs.WorkLaws.{with_work_a, with_work_b, with_plan, before-fewer, puts-both, work-before}
 
 -- each line of a scenario and choices may come where it stands
 pub record MayCome (forms : Forms) (s : Scen) (choices : List Choice) : Type 0 where
@@ -40,9 +40,9 @@ none-split all done x rest none split =
 -- work that the program runs may come item by item
 built-work : (s : Scen) → IsBuilt s → (so : SoFar) (done : List Item) (i : Item) (rest : List Item) → s.work_a ≡ done ++ i ∷ rest → IsTrue (allows Built (with_work_a so done) (Work A i))
 built-work s built so done i rest split =
-    let fewer = before-fewer s.work_a done i rest split in
     let whole : is_work (done ++ i ∷ [] ++ rest) ≡ true = ap is_work (append_assoc done (i ∷ []) rest ∙ sym split) ∙ built.work_a in
-    both_true (lt-ltb (length done) 62 (omega (arith, fewer, built.few))) (work-before (done ++ i ∷ []) rest whole)
+    let puts : puts_in s.work_a ≡ puts_in done + (put_count i + puts_in rest) = ap puts_in split ∙ puts-both done (i ∷ rest) in
+    both_true (le-leb (puts_in done + put_count i) 60 (omega (arith, puts, built.puts))) (work-before (done ++ i ∷ []) rest whole)
 
 -- All lines of a scenario and choices that are allowed may come.
 pub may-come : (forms : Forms) (s : Scen) (choices : List Choice) → AreAllowed forms s choices → MayCome forms s choices

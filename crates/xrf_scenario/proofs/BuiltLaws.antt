@@ -1,7 +1,7 @@
 -- What a text says all of whose lines are built is built.
-use Rattle.std.proofs.Common.{◌≡◌, ◌≤◌, ◌<◌, ◌+◌, not, ℕ, Bool, true, false, IsTrue, if◌then◌else◌, Some, unwrap_or, List, [], ◌∷◌, ◌++◌, length, map, Result, Ok, Err, nat_lt, refl, sym, subst, length-append, arith}
+use Rattle.std.proofs.Common.{◌≡◌, ◌≤◌, ◌+◌, not, ℕ, Bool, true, false, IsTrue, if◌then◌else◌, Some, unwrap_or, List, [], ◌∷◌, ◌++◌, map, Result, Ok, Err, refl, sym, subst, arith, nat_le}
 use Rattle.std.specs.List.{AllByRecursion}
-use Rattle.std.proofs.lemmas.Bool.{ltb-true, and_parts}
+use Rattle.std.proofs.lemmas.Bool.{leb-true, and_parts}
 use Rattle.xrf_base.specs.declared.site.Site.TheVariants.{A, B}
 use Rattle.xrf_text.specs.Text.{words}
 use Rattle.xrf_forms.specs.declared.form.Format.{Format}
@@ -16,12 +16,13 @@ use Rattle.xrf_scenario.specs.Reading.{begun, SaysIn, SaysThen, Says, SaysAll, R
 use Rattle.xrf_scenario.specs.Scenario.{Scen}
 use Rattle.xrf_scenario.specs.SoFar.{SoFar, nothing_said, is_whole}
 use Rattle.xrf_scenario.specs.Taking.{numbered, are_within, take_setting, take}
-use Rattle.xrf_scenario.specs.Work.{is_work}
+use Rattle.xrf_scenario.specs.Work.{is_work, put_count, puts_in}
 use Rattle.xrf_scenario.specs.declared.built.Forms.TheVariants.{Built}
 use Rattle.xrf_scenario.specs.declared.given.Given.{Given}
 use Rattle.xrf_scenario.specs.declared.given.Part.{Part}
 use Rattle.xrf_scenario.specs.declared.given.Part.TheVariants.{Start, Settings, Making, Whole}
 use Rattle.xrf_scenario.specs.declared.numbered.Numbered.{Numbered}
+use Rattle.xrf_scenario.proofs.WorkLaws.{puts-both}
 use Rattle.xrf_scenario.proofs.SaidLaws.{once-is, room-is, free-is, all-more, all-times}
 
 -- What is said is built.
@@ -29,17 +30,17 @@ record IsBuiltSoFar (so : SoFar) : Type 0 where
   format : so.format ≡ One
   images : unwrap_or so.given.images false ≡ false
   work_a : is_work so.work_a ≡ true
-  few : length so.work_a ≤ 62
+  puts : puts_in so.work_a ≤ 60
   work_b : so.work_b ≡ []
   plan : so.plan ≡ []
   choices : AllByRecursion (λ (k : Numbered). is_built_choice k.choice ≡ true) so.choices
 
 nothing-built : IsBuiltSoFar nothing_said
-nothing-built = record { format = refl; images = refl; work_a = refl; few = omega arith; work_b = refl; plan = refl; choices = tt }
+nothing-built = record { format = refl; images = refl; work_a = refl; puts = omega arith; work_b = refl; plan = refl; choices = tt }
 
 -- settings other than IMAGES change nothing of it
 given-built : (so : SoFar) (g : Given) → IsBuiltSoFar so → unwrap_or g.images false ≡ false → IsBuiltSoFar (record so { given = g })
-given-built so g is off = record { format = is.format; images = off; work_a = is.work_a; few = is.few; work_b = is.work_b; plan = is.plan; choices = is.choices }
+given-built so g is off = record { format = is.format; images = off; work_a = is.work_a; puts = is.puts; work_b = is.work_b; plan = is.plan; choices = is.choices }
 
 is-off : (on : Bool) → not on ≡ true → on ≡ false
 is-off true h = absurd (cc)
@@ -64,22 +65,23 @@ setting-built so next l is built h = let same : so ≡ next = cc in subst IsBuil
 
 -- each line that is built keeps it
 taken-built : (number : ℕ) (so next : SoFar) (ws : List (List ℕ)) (l : Line) → IsBuiltSoFar so → is_built so l ≡ true → take number so ws l ≡ Ok next → IsBuiltSoFar next
-taken-built number so next ws (Record n value) is built h = subst IsBuiltSoFar (free-is _ _ next h) (record { format = is.format; images = is.images; work_a = is.work_a; few = is.few; work_b = is.work_b; plan = is.plan; choices = is.choices })
-taken-built number so next ws Clt is built h = subst IsBuiltSoFar (room-is _ _ next h).1 (record { format = is.format; images = is.images; work_a = is.work_a; few = is.few; work_b = is.work_b; plan = is.plan; choices = is.choices })
+taken-built number so next ws (Record n value) is built h = subst IsBuiltSoFar (free-is _ _ next h) (record { format = is.format; images = is.images; work_a = is.work_a; puts = is.puts; work_b = is.work_b; plan = is.plan; choices = is.choices })
+taken-built number so next ws Clt is built h = subst IsBuiltSoFar (room-is _ _ next h).1 (record { format = is.format; images = is.images; work_a = is.work_a; puts = is.puts; work_b = is.work_b; plan = is.plan; choices = is.choices })
 taken-built number so next ws (Work A i) is built h =
-    let few : length so.work_a < 62 = ltb-true (length so.work_a) 62 (and_parts (nat_lt (length so.work_a) 62) (is_work (so.work_a ++ i ∷ [])) built).0 in
-    let longer : length (so.work_a ++ i ∷ []) ≡ length so.work_a + 1 = length-append so.work_a (i ∷ []) in
-    subst IsBuiltSoFar (room-is _ _ next h).1 (record { format = is.format; images = is.images; work_a = (and_parts (nat_lt (length so.work_a) 62) (is_work (so.work_a ++ i ∷ [])) built).1; few = omega (arith, longer, few); work_b = is.work_b; plan = is.plan; choices = is.choices })
+    let test = and_parts (nat_le (puts_in so.work_a + put_count i) 60) (is_work (so.work_a ++ i ∷ [])) built in
+    let few : puts_in so.work_a + put_count i ≤ 60 = leb-true (puts_in so.work_a + put_count i) 60 test.0 in
+    let more : puts_in (so.work_a ++ i ∷ []) ≡ puts_in so.work_a + (put_count i + 0) = puts-both so.work_a (i ∷ []) in
+    subst IsBuiltSoFar (room-is _ _ next h).1 (record { format = is.format; images = is.images; work_a = test.1; puts = omega (arith, more, few); work_b = is.work_b; plan = is.plan; choices = is.choices })
 taken-built number so next ws (Work B i) is built h = absurd (cc)
 taken-built number so next ws (Plan tick c) is built h = absurd (cc)
 taken-built number so next ws Choices is built h = by (are_within so) h
   where
     by : (b : Bool) → ◌≡◌ {A = Result SoFar Reason} (if b then Ok (record so { part = Making }) else Err RrnRange) (Ok next) → IsBuiltSoFar next
-    by true k = let same : record so { part = Making } ≡ next = cc in subst IsBuiltSoFar same (record { format = is.format; images = is.images; work_a = is.work_a; few = is.few; work_b = is.work_b; plan = is.plan; choices = is.choices })
+    by true k = let same : record so { part = Making } ≡ next = cc in subst IsBuiltSoFar same (record { format = is.format; images = is.images; work_a = is.work_a; puts = is.puts; work_b = is.work_b; plan = is.plan; choices = is.choices })
     by false k = absurd (cc)
-taken-built number so next ws (Once c) is built h = subst IsBuiltSoFar (room-is _ _ next h).1 (record { format = is.format; images = is.images; work_a = is.work_a; few = is.few; work_b = is.work_b; plan = is.plan; choices = all-more (λ (k : Numbered). is_built_choice k.choice ≡ true) so.choices (numbered number c) is.choices built })
-taken-built number so next ws (Times c count) is built h = subst IsBuiltSoFar (room-is _ _ next h).1 (record { format = is.format; images = is.images; work_a = is.work_a; few = is.few; work_b = is.work_b; plan = is.plan; choices = all-times (λ (k : Numbered). is_built_choice k.choice ≡ true) so.choices (numbered number c) count is.choices built })
-taken-built number so next ws End is built h = let same : record so { part = Whole } ≡ next = cc in subst IsBuiltSoFar same (record { format = is.format; images = is.images; work_a = is.work_a; few = is.few; work_b = is.work_b; plan = is.plan; choices = is.choices })
+taken-built number so next ws (Once c) is built h = subst IsBuiltSoFar (room-is _ _ next h).1 (record { format = is.format; images = is.images; work_a = is.work_a; puts = is.puts; work_b = is.work_b; plan = is.plan; choices = all-more (λ (k : Numbered). is_built_choice k.choice ≡ true) so.choices (numbered number c) is.choices built })
+taken-built number so next ws (Times c count) is built h = subst IsBuiltSoFar (room-is _ _ next h).1 (record { format = is.format; images = is.images; work_a = is.work_a; puts = is.puts; work_b = is.work_b; plan = is.plan; choices = all-times (λ (k : Numbered). is_built_choice k.choice ≡ true) so.choices (numbered number c) count is.choices built })
+taken-built number so next ws End is built h = let same : record so { part = Whole } ≡ next = cc in subst IsBuiltSoFar same (record { format = is.format; images = is.images; work_a = is.work_a; puts = is.puts; work_b = is.work_b; plan = is.plan; choices = is.choices })
 taken-built number so next ws (Applid A name) is built h = setting-built so next (Applid A name) is built h
 taken-built number so next ws (Applid B name) is built h = setting-built so next (Applid B name) is built h
 taken-built number so next ws (Takeovr mode) is built h = setting-built so next (Takeovr mode) is built h
@@ -96,7 +98,7 @@ taken-built number so next ws (Level B n) is built h = setting-built so next (Le
 taken-built number so next ws (Xrfsoff force) is built h = setting-built so next (Xrfsoff force) is built h
 
 header-built : (so next : SoFar) (format : Format) → IsTrue (allows_format Built format) → IsBuiltSoFar so → next ≡ begun so format → IsBuiltSoFar next
-header-built so next One built is same = subst IsBuiltSoFar (sym same) (record { format = refl; images = is.images; work_a = is.work_a; few = is.few; work_b = is.work_b; plan = is.plan; choices = is.choices })
+header-built so next One built is same = subst IsBuiltSoFar (sym same) (record { format = refl; images = is.images; work_a = is.work_a; puts = is.puts; work_b = is.work_b; plan = is.plan; choices = is.choices })
 header-built so next Two built is same = absurd (cc)
 
 step-built : (number : ℕ) (so next : SoFar) (line : List ℕ) → IsBuiltSoFar so → Says Built number so line next → IsBuiltSoFar next
@@ -125,6 +127,6 @@ choices-built (c ∷ cs) all = (all.0, choices-built cs all.1)
 pub built-told : (text : List ℕ) (s : Scen) (choices : List Numbered) → Reads Built text s choices → IsBuilt s × AreBuilt (map (λ (k : Numbered). k.choice) choices)
 built-told text s choices reads =
     let is = all-built 0 nothing_said reads.last (text_lines text) nothing-built reads.said in (
-      subst IsBuilt (sym reads.scenario) (record { format = is.format; images = is.images; work_a = is.work_a; few = is.few; work_b = is.work_b; plan = is.plan }),
+      subst IsBuilt (sym reads.scenario) (record { format = is.format; images = is.images; work_a = is.work_a; puts = is.puts; work_b = is.work_b; plan = is.plan }),
       subst (λ (cs : List Numbered). AreBuilt (map (λ (k : Numbered). k.choice) cs)) (sym reads.made) (choices-built reads.last.choices is.choices),
     )

@@ -21,7 +21,7 @@ use Rattle.xrf_scenario.specs.Reading.{Says, SaysAll}
 use Rattle.xrf_scenario.specs.Scenario.{ArePlanned}
 use Rattle.xrf_scenario.specs.SoFar.{SoFar}
 use Rattle.xrf_scenario.specs.Taking.{take, with_room, last_tick}
-use Rattle.xrf_scenario.specs.Work.{is_work, is_unit_rest}
+use Rattle.xrf_scenario.specs.Work.{is_work, is_unit_rest, puts_in}
 use Rattle.xrf_scenario.specs.declared.built.Forms.{Forms}
 use Rattle.xrf_scenario.specs.declared.given.Part.TheVariants as part
 use Rattle.xrf_scenario.proofs.StepLaws.{setting-written, all-at, all-say}
@@ -132,3 +132,23 @@ work-before (Shutdown ∷ done) more all = absurd (cc)
 work-before (ShutdownTakeover ∷ done) more all = absurd (cc)
 work-before (Signon terminal user ∷ done) more all = absurd (cc)
 work-before (Signoff terminal ∷ done) more all = absurd (cc)
+
+-- the PUTs of two lists are those of both
+pub puts-both : (xs ys : List Item) → puts_in (xs ++ ys) ≡ puts_in xs + puts_in ys
+puts-both [] ys = omega arith
+puts-both (x ∷ xs) ys = let rest = puts-both xs ys in omega (arith, rest)
+
+-- the work of one unit has at most two items that are no PUTs
+rest-length : (unit : List ℕ) (items : List Item) → is_unit_rest unit items ≡ true → length items ≤ puts_in items + 1
+rest-length unit [] is = omega arith
+rest-length unit (Put name number value ∷ items) is =
+    let rest : length items ≤ puts_in items + 1 = rest-length unit items (and_parts (pointwise nat_eq name unit && nat_le number 65535 && is_value value) (is_unit_rest unit items) is).1 in
+    omega (arith, rest)
+rest-length unit (Commit name ∷ []) is = omega arith
+rest-length unit (Commit name ∷ next ∷ items) is = absurd (cc)
+rest-length unit (other ∷ items) is = absurd (cc)
+
+pub unit-length : (items : List Item) → is_work items ≡ true → length items ≤ puts_in items + 2
+unit-length [] is = omega arith
+unit-length (Begin unit ∷ items) is = let rest = rest-length unit items (and_parts (is_name unit) (is_unit_rest unit items) is).1 in omega (arith, rest)
+unit-length (other ∷ items) is = absurd (cc)

@@ -1,5 +1,5 @@
 -- The lines that the program runs today. This list shrinks as the program grows.
-use Rattle.std.specs.Prelude.{◌≡◌, ◌≤◌, Bool, true, false, ◌&&◌, not, nat_lt, List, [], ◌∷◌, ◌++◌, length}
+use Rattle.std.specs.Prelude.{◌≡◌, ◌≤◌, ◌+◌, Bool, true, false, ◌&&◌, not, nat_le, List, [], ◌∷◌, ◌++◌}
 use Rattle.std.specs.List.{AllByRecursion}
 use Rattle.xrf_base.specs.declared.site.Site.TheVariants.{A, B}
 use Rattle.xrf_forms.specs.declared.choice.Choice.{Choice}
@@ -10,7 +10,7 @@ use Rattle.xrf_forms.specs.declared.line.Line.{Line}
 use Rattle.xrf_forms.specs.declared.line.Line.TheVariants.{Images, Work, Plan, Once, Times}
 use Rattle.xrf_scenario.specs.Scenario.{Scen}
 use Rattle.xrf_scenario.specs.SoFar.{SoFar}
-use Rattle.xrf_scenario.specs.Work.{is_work}
+use Rattle.xrf_scenario.specs.Work.{is_work, put_count, puts_in}
 use Rattle.xrf_scenario.specs.declared.built.Forms.{Forms}
 use Rattle.xrf_scenario.specs.declared.built.Forms.TheVariants.{All, Built}
 
@@ -28,7 +28,7 @@ is_built_choice _ = false
 -- PUTs, planned choices, and all choices but those above.
 abbrev pub is_built : SoFar → Line → Bool
 is_built so (Images on) = not on
-is_built so (Work A item) = nat_lt (length so.work_a) 62 && is_work (so.work_a ++ item ∷ [])
+is_built so (Work A item) = nat_le (puts_in so.work_a + put_count item) 60 && is_work (so.work_a ++ item ∷ [])
 is_built so (Work B item) = false
 is_built so (Plan tick choice) = false
 is_built so (Once choice) = is_built_choice choice
@@ -49,7 +49,7 @@ pub record IsBuilt (s : Scen) : Type 0 where
   pub format : s.settings.format ≡ One
   pub images : s.settings.images ≡ false
   pub work_a : is_work s.work_a ≡ true
-  pub few : length s.work_a ≤ 62
+  pub puts : puts_in s.work_a ≤ 60
   pub work_b : s.work_b ≡ []
   pub plan : s.plan ≡ []
 

@@ -1,5 +1,5 @@
--- The work of one unit: BEGIN first, then at most 60 PUTs, then COMMIT, each naming the unit of BEGIN.
-use Rattle.std.specs.Prelude.{ℕ, Bool, true, false, ◌&&◌, nat_eq, nat_le, List, [], ◌∷◌, IsTrue}
+-- The work of one unit: BEGIN first, then PUTs, then COMMIT, each naming the unit of BEGIN.
+use Rattle.std.specs.Prelude.{ℕ, ◌+◌, Bool, true, false, ◌&&◌, nat_eq, nat_le, List, [], ◌∷◌, IsTrue}
 use Rattle.std.specs.Cmp.Lexicographic.{pointwise}
 use Rattle.xrf_base.specs.Names.{is_name}
 use Rattle.xrf_base.specs.Values.{is_value}
@@ -26,6 +26,15 @@ is_work (_ ∷ items) = false
 
 abbrev pub IsWork : List Item → Type 0
 IsWork items = IsTrue (is_work items)
+
+-- how many PUTs there are
+abbrev pub put_count : Item → ℕ
+put_count (Put unit number value) = 1
+put_count _ = 0
+
+abbrev pub puts_in : List Item → ℕ
+puts_in [] = 0
+puts_in (item ∷ items) = put_count item + puts_in items
 
 abbrev pub is_commit : Item → Bool
 is_commit (Commit unit) = true

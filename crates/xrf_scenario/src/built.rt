@@ -8,7 +8,7 @@ ghost use Rattle.xrf_scenario.specs.Held.{said};
 ghost use Rattle.xrf_scenario.specs.Said.{IsSaid, IsLineSaid};
 
 use crate::reading::Reading;
-use crate::work::goes_on;
+use crate::work::{goes_on, put_count, puts_in};
 use xrf_base::{Item, Site};
 use xrf_forms::{Choice, Format, Line};
 
@@ -45,7 +45,7 @@ fn is_built_work(reading: &Reading, site: Site, item: &Item) -> bool
     if matches!(site, Site::B) {
         return false;
     }
-    if reading.work_a.len() >= 62 {
+    if puts_in(&reading.work_a) + put_count(item) > 60 {
         return false;
     }
     goes_on(&reading.work_a, item)

@@ -607,6 +607,33 @@ fn repeated(alloc: Global, line: &[u8], count: usize) -> Result<Vec<u8>, AllocEr
     Ok(text)
 }
 
+// a unit of so many PUTs, and its COMMIT
+fn unit(alloc: Global, puts: usize, behind: &[u8]) -> Result<Vec<u8>, AllocError> {
+    let mut text = Vec::new(alloc);
+    text.extend_from_slice(b"XRF 1\nWORK A BEGIN U1\n")?;
+    for put in 0..puts {
+        text.extend_from_slice(b"WORK A PUT U1 1 V\n")?;
+    }
+    text.extend_from_slice(behind)?;
+    text.extend_from_slice(b"CHOICES\nEND\n")?;
+    Ok(text)
+}
+
+#[test]
+fn a_unit_of_60_puts_is_run_and_no_more(rt: HostRuntime) -> Result<(), Fail> {
+    let most = unit(rt.alloc(), 60, b"WORK A COMMIT U1\n")?;
+    assert!(rt; most.len() < 10_000);
+    assert_eq!(rt; refusal(rt.alloc(), Forms::Built, &most), None);
+    let more = unit(rt.alloc(), 61, b"")?;
+    assert!(rt; more.len() < 10_000);
+    assert_eq!(rt;
+        refusal(rt.alloc(), Forms::Built, &more),
+        Some((63, Reason::NotBuilt))
+    );
+    assert_eq!(rt; refusal(rt.alloc(), Forms::All, &more), None);
+    Ok(())
+}
+
 #[test]
 fn there_are_limits_to_lists_work_and_plan(rt: HostRuntime) -> Result<(), Fail> {
     let table: [(&[u8], usize); 4] = [

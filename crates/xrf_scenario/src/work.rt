@@ -1,9 +1,9 @@
 //! The work of one unit.
 
-ghost use Rattle.std.specs.Prelude.{◌≡◌, ◌++◌, [], ◌∷◌};
+ghost use Rattle.std.specs.Prelude.{◌≡◌, ◌≤◌, length, ◌++◌, [], ◌∷◌};
 ghost use Rattle.std.specs.List.{AllByRecursion};
 ghost use Rattle.xrf_forms.specs.Spelling.{HasItem};
-ghost use Rattle.xrf_scenario.specs.Work.{is_work, is_unit_rest, is_put_of};
+ghost use Rattle.xrf_scenario.specs.Work.{is_work, is_unit_rest, is_put_of, put_count, puts_in};
 
 use xrf_base::{Item, Name8};
 
@@ -51,5 +51,27 @@ pub fn goes_on(work: &[Item], item: &Item) -> bool
         [] => matches!(item, Item::Begin(_)),
         [Item::Begin(unit), rest @ ..] => rest_goes_on(unit, rest, item),
         _ => false,
+    }
+}
+
+/// How many PUTs an item is: one or none.
+pub fn put_count(item: &Item) -> usize
+    ensures count { result ≡ put_count item.now }
+    ensures within { result ≤ 1 }
+{
+    match item {
+        Item::Put(_, _, _) => 1,
+        _ => 0,
+    }
+}
+
+/// How many PUTs there are among some items.
+pub fn puts_in(items: &[Item]) -> usize
+    ensures count { result ≡ puts_in items.now }
+    ensures within { result ≤ length items.now }
+{
+    match items {
+        [] => 0,
+        [item, more @ ..] => put_count(item) + puts_in(more),
     }
 }

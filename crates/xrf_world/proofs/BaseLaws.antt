@@ -5,7 +5,9 @@ use Rattle.std.specs.List.{AllByRecursion}
 use Rattle.xrf_base.specs.Values.{IsValue}
 use Rattle.xrf_base.specs.declared.items.Item.{Item}
 use Rattle.xrf_scenario.specs.Scenario.{Scen, IsScen, AreRecords}
+use Rattle.xrf_scenario.proofs.WorkLaws.{unit-length}
 use Rattle.xrf_scenario.specs.Built.{IsBuilt}
+use Rattle.xrf_scenario.specs.Work.{puts_in}
 use Rattle.xrf_world.specs.Base.{IsBase, with_records, at_places, base_of}
 
 -- the count of the places stays
@@ -86,7 +88,7 @@ is-base s is built = record {
   within = λ k above. with-above s.records (replicate 256 None) 1 s.settings.file k (omega arith) above is.records ∙ none-at 256 k;
   values = with-values s.records (replicate 256 None) 1 s.settings.file is.records (none-values 256);
   work = built.work_a;
-  items = built.few;
+  items = let sized : length s.work_a ≤ puts_in s.work_a + 2 = unit-length s.work_a built.work_a in omega (arith, sized, built.puts);
 }
 
 pub is-base-of : (s : Scen) (file : ℕ) (records : List (ℕ × List ℕ)) (places : List (Option (List ℕ))) (items work : List Item) → IsScen s → IsBuilt s

@@ -12,8 +12,8 @@ pub record Base : Type 0 where
   pub records : List (Option (List ℕ))
   pub work : List Item
 
--- FILE is 1 to 256, records have numbers up to FILE, and the work is that of one unit,
--- with at most 60 PUTs
+-- FILE is 1 to 256, records have numbers up to FILE, and the work is that of one unit, of at most
+-- 62 items
 pub record IsBase (s : Base) : Type 0 where
   pub file_least : 1 ≤ s.file
   pub file_most : s.file ≤ 256

@@ -96,6 +96,7 @@ fn names_and_options() -> &'static [Row] {
     &[
         (Place::One, b"APPLID A CICSX", None),
         (Place::One, b"APPLID B $@#9", None),
+        (Place::One, b"APPLID B ABCDEFG8", None),
         (Place::One, b"APPLID A", Some(Reason::WordCount)),
         (Place::One, b"APPLID A CICSA X", Some(Reason::WordCount)),
         (Place::One, b"APPLID C CICSA", Some(Reason::BadSite)),
@@ -564,27 +565,18 @@ fn each_line_is_read_or_has_its_first_reason(rt: HostRuntime) -> Result<(), Fail
             assert_eq!(rt; refusal(rt.alloc(), Forms::All, &text), wanted);
         }
     }
-    Ok(())
-}
-
-#[test]
-fn a_line_has_at_most_300_bytes(rt: HostRuntime) -> Result<(), Fail> {
     for (place, width, line, reason) in &PADDED {
         let text = text_with(rt.alloc(), *place, line, *width)?;
         assert!(rt; text.len() < 1000);
         let wanted = reason.map(|reason| (number(*place), reason));
         assert_eq!(rt; refusal(rt.alloc(), Forms::All, &text), wanted);
     }
-    Ok(())
-}
-
-#[test]
-fn each_text_is_read_or_refused_at_its_first_bad_line(rt: HostRuntime) {
     for (text, line, reason) in &TEXTS {
         assert!(rt; text.len() < 1000);
         let wanted = reason.map(|reason| (*line, reason));
         assert_eq!(rt; refusal(rt.alloc(), Forms::All, text), wanted);
     }
+    Ok(())
 }
 
 #[test]

@@ -1,10 +1,13 @@
 pub mod Events
 pub mod Holding
+pub mod Progress
 pub mod Taking
 pub mod Reserving
 pub mod Notices
 pub mod Looking
+pub mod News
 pub mod Deciding
+pub mod Causes
 pub mod Restarting
 pub mod Terminals
 pub mod Working

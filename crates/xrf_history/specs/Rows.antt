@@ -22,7 +22,7 @@ use Rattle.xrf_cavm.specs.declared.decisions.Decided.TheVariants.{Alternate, Wai
 use Rattle.xrf_history.specs.Events.{Event, Ticked, Signalled1, DecisionMade, MessageRead, LineIssued, ActFailed}
 use Rattle.xrf_history.specs.Holding.{number, is_granted, is_owner, is_waiting, is_restarted}
 use Rattle.xrf_history.specs.Taking.{expected, gives, is_draining}
-use Rattle.xrf_history.specs.Reserving.{sign_off_due, drop_due, start_due, through_due, leaving}
+use Rattle.xrf_history.specs.Reserving.{sign_off_due, drop_due, start_due, through_due, leaves}
 use Rattle.xrf_history.specs.Notices.{notice}
 use Rattle.xrf_history.specs.Restarting.{scan, rows_left, backouts_left, next_record}
 use Rattle.xrf_history.specs.Working.{keypoint_due, next_keypoint}
@@ -162,7 +162,7 @@ abbrev pub lines_left : Settings → List Event → Bool
 lines_left p h = is_waiting h && nat_lt (lines_issued h) p.clt_lines
 
 abbrev pub alternate_next : Settings → List Event → Want
-alternate_next p h = elim (lines_left p h) [ true ↦ want.Clt (lines_issued h + 1) | false ↦ alternate_row p h (leaving h) ]
+alternate_next p h = elim (lines_left p h) [ true ↦ want.Clt (lines_issued h + 1) | false ↦ alternate_row p h (leaves h) ]
 
 -- the act at a boundary
 abbrev pub boundary : Settings → List Event → Want

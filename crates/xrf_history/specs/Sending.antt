@@ -1,5 +1,5 @@
 -- The messages that an owner sends to the alternate of its epoch.
-use Rattle.std.specs.Prelude.{ℕ, ◌+◌, ◌-◌, ◌==◌, Bool, true, false, ◌||◌, nat_lt, if◌then◌else◌, List, [], ◌∷◌, filter, slice_get, Option, Some, None}
+use Rattle.std.specs.Prelude.{ℕ, ◌+◌, ◌-◌, ◌==◌, Bool, true, false, ◌&&◌, ◌||◌, not, nat_lt, if◌then◌else◌, List, [], ◌∷◌, filter, map, slice_get, Option, Some, None}
 use Rattle.xrf_base.specs.declared.items.Item.{Item}
 use Rattle.xrf_base.specs.declared.items.Item.TheVariants as items
 use Rattle.xrf_base.specs.declared.items.ItemAnswer.{ItemAnswer}
@@ -16,9 +16,12 @@ use Rattle.xrf_msg.specs.Messages.{is_tracked}
 use Rattle.xrf_msg.specs.Numbers.{cursor_after}
 use Rattle.xrf_terms.specs.declared.rows.Row.{Row}
 use Rattle.xrf_terms.specs.Table.{row_of}
+use Rattle.xrf_terms.specs.Tracking.{tracked_row}
 use Rattle.xrf_history.specs.declared.settings.Settings.{Settings}
 use Rattle.xrf_history.specs.declared.want.Want.TheVariants as want
 use Rattle.xrf_history.specs.Events.{Event, Looked1, Looked2, DecisionMade, MessageOpened, Given, ActFailed}
+use Rattle.xrf_history.specs.Holding.{is_owner, is_restarted}
+use Rattle.xrf_history.specs.Reserving.{is_on_message}
 use Rattle.xrf_history.specs.Notices.{epoch}
 use Rattle.xrf_history.specs.Terminals.{terminal_answer, table}
 
@@ -143,3 +146,26 @@ message_due_in p (Some n) h =
 
 abbrev pub message_due : Settings → List Event → Option Message
 message_due p h = message_due_in p (epoch h) h
+
+-- a message has failed since that CATCHUP
+abbrev pub cut_after : Decided → Bool → Bool
+cut_after (Owner (acting.CatchUp n)) before = false
+cut_after _ before = before
+
+abbrev pub is_cut : List Event → Bool
+is_cut [] = false
+is_cut (DecisionMade known at decision ∷ h) = cut_after decision (is_cut h)
+is_cut (ActFailed tried at ∷ h) = is_cut h || is_on_message tried
+is_cut (_ ∷ h) = is_cut h
+
+-- its alternate is caught up: it has sent End, and no message has failed since the CATCHUP
+abbrev pub is_caught_up : List Event → Bool
+is_caught_up h = is_owner h && is_restarted h && is_end_sent h && not (is_cut h)
+
+-- what its messages tell of a table: the rows of class 1 or 2, and at level 2 their users
+abbrev pub told_row : Level → Row → Row
+told_row One row = tracked_row row.term row.class None
+told_row Two row = tracked_row row.term row.class row.user
+
+abbrev pub told_rows : Level → List Row → List Row
+told_rows level rows = map (told_row level) (tracked_rows rows)

@@ -30,6 +30,14 @@ AtSite s t who.A fact = OfJob (hist s t site.A) (fact site.A)
 AtSite s t who.B fact = OfJob (hist s t site.B) (fact site.B)
 AtSite s t who.Env fact = Unit {0}
 
+-- of the job that is at each site
+abbrev pub EverySite : Scen → List Entry → (Site → List Event → Type 0) → Type 0
+EverySite s t fact = OfJob (hist s t site.A) (fact site.A) × OfJob (hist s t site.B) (fact site.B)
+
+-- of the trace after each entry
+abbrev pub After : (List Entry → Type 0) → List Entry → Type 0
+After fact t = Each (λ before e. fact (e ∷ before)) t
+
 -- an act is the one that stands in its place of a sequence, as far as the sequence goes
 abbrev pub IsAct : Option Act → Act → Type 0
 IsAct (Some wanted) a = a ≡ wanted

@@ -12,13 +12,14 @@ use Rattle.xrf_history.specs.Events.{Event, StartedActive, StartedStandby, Ticke
 use Rattle.xrf_history.specs.Holding.{number, is_granted}
 use Rattle.xrf_history.specs.Looking.{record_seen}
 use Rattle.xrf_history.specs.Restarting.{has_read_block}
-use Rattle.xrf_history.specs.Next.{next}
+use Rattle.xrf_history.specs.declared.want.Want.{Want}
+use Rattle.xrf_history.specs.declared.want.Want.TheVariants as want
 use Rattle.xrf_trace.specs.declared.entry.Entry.{Entry}
 use Rattle.xrf_trace.specs.declared.entry.Act.{Act}
 use Rattle.xrf_trace.specs.declared.entry.Act.TheVariants as act
 use Rattle.xrf_trace.specs.declared.entry.Land.{Land}
 use Rattle.xrf_trace.specs.declared.entry.Land.TheVariants as land
-use Rattle.xrf_trace.specs.Scenario.{Scen, settings, item_at, other}
+use Rattle.xrf_trace.specs.Scenario.{Scen, item_at, other}
 use Rattle.xrf_trace.specs.Words.{is_of, confirmed}
 use Rattle.xrf_trace.specs.Devices.{control, sector1, sector2, message_slot, log_slot, key_slot, image, log_block, key_slots}
 
@@ -76,6 +77,26 @@ handed s t x at h act.Restarted = RestartDeclared
 handed s t x at h (act.Ended reason) = EndedAs reason
 handed s t x at h _ = Ticked
 
+-- the want of an act that may fail
+abbrev pub tried : Act → Want
+tried (act.MsgRead k) = want.MsgRead k
+tried (act.MsgClose k) = want.MsgClose k
+tried (act.MsgBody k message) = want.MsgBody k message
+tried (act.MsgOpen k message) = want.MsgOpen k message
+tried (act.LogRead b) = want.LogRead b
+tried (act.LogLook p) = want.LogLook p
+tried (act.LogClose p) = want.LogClose p
+tried (act.LogBody p rec) = want.LogBody p rec
+tried (act.LogOpen p rec) = want.LogOpen p rec
+tried (act.KpRead k) = want.KpRead k
+tried (act.KpClose k) = want.KpClose k
+tried (act.KpBody k keypoint) = want.KpBody k keypoint
+tried (act.KpOpen k keypoint) = want.KpOpen k keypoint
+tried (act.FileRead k) = want.FileRead k
+tried (act.FileWrite unit k value) = want.FileWrite unit k value
+tried (act.Undo k before) = want.Undo k before
+tried _ = want.Nothing
+
 -- The job at a site: its history from its last START on, and none where an ENDED or a stop follows that START.
 -- A failed act, which is the next one, tells the job that it failed. A TICK reaches the job of each site.
 abbrev pub after_act : Scen → List Entry → Site → (at : ℕ) → Act → Option (List Event) → Option (List Event)
@@ -86,7 +107,7 @@ after_act s t x at a job = option_map (λ h. handed s t x at h a ∷ h) job
 
 abbrev pub after_own : Scen → List Entry → Site → (at : ℕ) → Act → Land → Option (List Event) → Option (List Event)
 after_own s t x at a (land.Stop landing) job = None
-after_own s t x at a (land.Fail landing) job = option_map (λ h. ActFailed (next (settings s x) h) at ∷ h) job
+after_own s t x at a (land.Fail landing) job = option_map (λ h. ActFailed (tried a) at ∷ h) job
 after_own s t x at a land.Full job = after_act s t x at a job
 after_own s t x at a land.Lost job = after_act s t x at a job
 

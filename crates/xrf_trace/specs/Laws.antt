@@ -1,5 +1,5 @@
 -- What holds of every run.
-use Rattle.std.specs.Prelude.{◌≡◌, ◌↔◌, IsTrue, List, ◌∷◌, length, take, slice_get, Some, None, IfSome, Ok, Err, IfOk}
+use Rattle.std.specs.Prelude.{◌≡◌, ◌≤◌, ◌↔◌, IsTrue, List, ◌∷◌, length, take, slice_get, Some, None, IfSome, Ok, Err, IfOk}
 use Rattle.xrf_forms.specs.declared.choice.Choice.{Choice}
 use Rattle.xrf_forms.specs.declared.choice.Choice.TheVariants as choice
 use Rattle.xrf_trace.specs.declared.entry.Entry.{Entry}
@@ -17,6 +17,9 @@ use Rattle.xrf_trace.specs.Runs.{Refusal, run, IsRun}
 use Rattle.xrf_trace.specs.Journal.{choices_of}
 use Rattle.xrf_trace.specs.Each.{Each}
 use Rattle.xrf_trace.specs.FileIsBook.{IsBook, IsBookAt}
+use Rattle.xrf_trace.specs.Safe.{Safe}
+use Rattle.xrf_trace.specs.Promises.{Promises}
+use Rattle.xrf_trace.specs.Ranges.{IsInRanges, most_entries}
 
 -- the trace of a run of choices is that of a run, with an entry for each choice
 abbrev pub RunsAreRuns : Type 0
@@ -57,3 +60,8 @@ ActsAreAnswered = (s : Scen) (t : List Entry) (x : Site) (h : List Event)
     IfSome (act_of s t x h w) (λ a.
     (handed s t x (now t) h a ≡ event (settings s x) h (answer_of s t x h w))
     × IsTrue (fits (settings s x) h w (answer_of s t x h w)))
+
+-- THE HEADLINE, stated here and proved above: of every scenario that keeps its ranges, every run is safe and keeps the
+-- promises.
+abbrev pub RunsAreSafe : Type 0
+RunsAreSafe = (s : Scen) (t : List Entry) → IsInRanges s → IsRun s t → length t ≤ most_entries → Safe s t × Promises s t

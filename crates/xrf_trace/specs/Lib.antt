@@ -11,11 +11,13 @@ pub mod Runs
 pub mod Journal
 pub mod Log
 pub mod Items
+pub mod AtHand
 pub mod Book
 pub mod Tracking
 pub mod Throughs
 pub mod Each
 pub mod OneUpdater
+pub mod OwnHand
 pub mod FileIsBook
 pub mod TableIsTracked
 pub mod StartByCause
@@ -23,4 +25,12 @@ pub mod ThroughByProof
 pub mod SilentOnceSeen
 pub mod FormatByLevel
 pub mod Safe
+pub mod OneOwner
+pub mod UnitsAreItems
+pub mod ItemsSeeBook
+pub mod TerminalsAreTold
+pub mod NextIsDue
+pub mod StartsAsWritten
+pub mod Promises
+pub mod Ranges
 pub mod Laws

@@ -1,5 +1,5 @@
 -- The unit log of a trace.
-use Rattle.std.specs.Prelude.{ℕ, if◌then◌else◌, List, [], ◌∷◌, ◌++◌}
+use Rattle.std.specs.Prelude.{ℕ, Bool, if◌then◌else◌, List, [], ◌∷◌, ◌++◌}
 use Rattle.std.specs.List.{list_any}
 use Rattle.xrf_base.specs.declared.items.UnitId.{UnitId}
 use Rattle.xrf_logrec.specs.declared.records.LogRec.{LogRec}
@@ -26,6 +26,9 @@ committed [] = []
 committed (Put unit rrn before ∷ records) = committed records
 committed (Commit unit ∷ records) = if list_any (same_unit unit) (committed records) then committed records else committed records ++ unit ∷ []
 committed (Backout unit ∷ records) = committed records
+
+abbrev pub is_committed : List LogRec → UnitId → Bool
+is_committed records unit = list_any (same_unit unit) (committed records)
 
 -- the start of the last KPOPEN that landed as 0xc1, and 0 where there is none
 abbrev pub start_after : Act → Land → ℕ → ℕ

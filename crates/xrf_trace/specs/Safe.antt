@@ -3,6 +3,7 @@ use Rattle.std.specs.Prelude.{List}
 use Rattle.xrf_trace.specs.declared.entry.Entry.{Entry}
 use Rattle.xrf_trace.specs.Scenario.{Scen}
 use Rattle.xrf_trace.specs.OneUpdater.{OneUpdater}
+use Rattle.xrf_trace.specs.OwnHand.{OwnHand}
 use Rattle.xrf_trace.specs.FileIsBook.{FileIsBook}
 use Rattle.xrf_trace.specs.TableIsTracked.{TableIsTracked}
 use Rattle.xrf_trace.specs.StartByCause.{StartByCause}
@@ -12,6 +13,7 @@ use Rattle.xrf_trace.specs.FormatByLevel.{FormatByLevel}
 
 pub record Safe (s : Scen) (t : List Entry) : Type 0 where
   pub one_updater : OneUpdater s t
+  pub own_hand : OwnHand s t
   pub file_is_book : FileIsBook s t
   pub table_is_tracked : TableIsTracked s t
   pub start_by_cause : StartByCause s t

@@ -8,13 +8,13 @@ use Rattle.xrf_cavm.specs.declared.known.Known.{Known}
 use Rattle.xrf_cavm.specs.declared.decisions.Waiting.TheVariants as waiting
 use Rattle.xrf_cavm.specs.declared.decisions.Decided.{Decided}
 use Rattle.xrf_cavm.specs.declared.decisions.Decided.TheVariants as decided
-use Rattle.xrf_cavm.specs.Record.{inc_of_owner, inc_of_alt, owner_is}
+use Rattle.xrf_cavm.specs.Record.{inc_of_owner, inc_of_alt, owner_is, is_alt}
 use Rattle.xrf_cavm.specs.Grants.{is_foreign, owner_format}
-use Rattle.xrf_cavm.specs.Writes.{as_owner}
 use Rattle.xrf_history.specs.declared.want.EndWhy.{EndWhy}
 use Rattle.xrf_history.specs.declared.want.EndWhy.TheVariants as end
-use Rattle.xrf_history.specs.Events.{Event, Ticked, Abended, Replied, Commanded, Exited, Reserved, ControlRead, DecisionMade}
-use Rattle.xrf_history.specs.Holding.{is_waiting}
+use Rattle.xrf_history.specs.Events.{Event}
+use Rattle.xrf_history.specs.Holding.{is_waiting, is_granted, number, starts_active}
+use Rattle.xrf_history.specs.Progress.{made_since_read, made_since_decision, has_read}
 use Rattle.xrf_history.specs.Reserving.{Purpose, SignOnActive, purpose, last_decision, is_through_decision, record_read, known_read}
 use Rattle.xrf_history.specs.Looking.{record_seen}
 use Rattle.xrf_trace.specs.declared.entry.Entry.{Entry}
@@ -23,8 +23,8 @@ use Rattle.xrf_trace.specs.declared.entry.Act.TheVariants as act
 use Rattle.xrf_trace.specs.Scenario.{Scen, settings}
 use Rattle.xrf_trace.specs.Words.{confirmed}
 use Rattle.xrf_trace.specs.Devices.{control}
-use Rattle.xrf_trace.specs.Throughs.{is_through, is_takeover}
-use Rattle.xrf_trace.specs.StartByCause.{DecidesSo, made_since_read}
+use Rattle.xrf_trace.specs.Throughs.{is_through, has_taking}
+use Rattle.xrf_trace.specs.StartByCause.{DecidesSo}
 use Rattle.xrf_trace.specs.Acts.{is_act}
 use Rattle.xrf_trace.specs.Each.{Each, Where, AtSite, InPlace}
 
@@ -44,32 +44,35 @@ DecidesThrough t e h = DecidesSo (is_waiting h) (through_or_wait (may_run t (rec
 abbrev pub WaitsForProof : Scen → List Entry → Entry → Type 0
 WaitsForProof s t e = AtSite s t e.who (λ x h. DecidesThrough t e h)
 
--- A takeover is written exactly where the last DECIDE is THROUGH: the acts since that DECIDE are RESERVE, CTLREAD,
--- the CTLWRITE that makes the alternate owner, and RELEASE, and no takeover is written elsewhere.
-abbrev pub made_since_decision : List Event → ℕ
-made_since_decision [] = 0
-made_since_decision (DecisionMade known at decision ∷ h) = 0
-made_since_decision (Ticked ∷ h) = made_since_decision h
-made_since_decision (Abended ∷ h) = made_since_decision h
-made_since_decision (Replied go at ∷ h) = made_since_decision h
-made_since_decision (Commanded command at ∷ h) = made_since_decision h
-made_since_decision (Exited answer at ∷ h) = made_since_decision h
-made_since_decision (_ ∷ h) = made_since_decision h + 1
+-- Where the last DECIDE is THROUGH, the acts since it are RESERVE, CTLREAD, the CTLWRITE that makes the alternate
+-- owner, and RELEASE.
+abbrev pub through_record : Site → Level → ℕ → ControlRecord → ControlRecord
+through_record x level n held = of_parts (owner_format level held.format) held.last (Some (record { inc = n; site = x; state = Running })) None None
 
-abbrev pub through_record : Level → ControlRecord → ControlRecord
-through_record level held = of_parts (owner_format level held.format) held.last (as_owner held.alt) None None
-
-abbrev pub through_sequence : Level → ControlRecord → List Act
-through_sequence level held = act.Reserve ∷ act.CtlRead ∷ act.CtlWrite (through_record level held) ∷ act.Release ∷ []
+abbrev pub through_sequence : Site → Level → ℕ → ControlRecord → List Act
+through_sequence x level n held = act.Reserve ∷ act.CtlRead ∷ act.CtlWrite (through_record x level n held) ∷ act.Release ∷ []
 
 abbrev pub GoesThrough : Scen → Site → List Event → Act → Type 0
-GoesThrough s x h a = Where (is_through_decision (last_decision h) && is_act a) (InPlace (through_sequence (settings s x).level (record_read h)) (made_since_decision h) a)
+GoesThrough s x h a = Where (is_through_decision (last_decision h) && is_act a) (InPlace (through_sequence x (settings s x).level (number h) (record_read h)) (made_since_decision h) a)
 
 abbrev pub ThroughWhere : Scen → List Entry → Entry → Type 0
 ThroughWhere s t e = AtSite s t e.who (λ x h. GoesThrough s x h e.act)
 
+-- Every through is by the one that becomes owner: a START as active that is granted, or an alternate that waits,
+-- decided THROUGH, and stands in the record with its taking.
+abbrev pub may_come : ControlRecord → List Event → Bool
+may_come held h =
+    elim (is_granted h) [
+      | false ↦ starts_active h
+      | true ↦ is_waiting h && is_through_decision (last_decision h) && is_alt held (number h) && has_taking held.taking (number h)
+    ]
+
+abbrev pub NamesItself : Entry → Site → Act → Type 0
+NamesItself e x (act.CtlWrite written) = written.owner ≡ Some (record { inc = e.inc; site = x; state = Running })
+NamesItself e x _ = Unit {0}
+
 abbrev pub ThroughOnlyWhere : Scen → List Entry → Entry → Type 0
-ThroughOnlyWhere s t e = Where (is_takeover t e) (AtSite s t e.who (λ x h. is_through_decision (last_decision h) ≡ true))
+ThroughOnlyWhere s t e = Where (is_through t e) (AtSite s t e.who (λ x h. (may_come (control t) h ≡ true) × NamesItself e x e.act))
 
 -- A sign-on as active is granted exactly where the record read under the reserve is of a format that the job's
 -- level reads, and has no owner that is Running and unconfirmed and no alternate that is unconfirmed.
@@ -96,13 +99,6 @@ sign_on_sequence x level held known =
 abbrev pub is_sign_on : Purpose → Bool
 is_sign_on SignOnActive = true
 is_sign_on _ = false
-
--- it has made a CTLREAD since its last RESERVE
-abbrev pub has_read : List Event → Bool
-has_read [] = false
-has_read (Reserved ∷ h) = false
-has_read (ControlRead held known ∷ h) = true
-has_read (_ ∷ h) = has_read h
 
 abbrev pub SignsOn : Scen → Site → List Event → Act → Type 0
 SignsOn s x h a =

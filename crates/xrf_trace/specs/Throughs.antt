@@ -1,7 +1,8 @@
--- Throughs, takeovers, and updates.
-use Rattle.std.specs.Prelude.{◌==◌, Bool, true, false, ◌&&◌, not, List}
+-- Throughs, takings, and updates.
+use Rattle.std.specs.Prelude.{ℕ, ◌==◌, Bool, true, false, ◌&&◌, not, List, Option, Some, None}
+use Rattle.xrf_ctl.specs.declared.parts.Taking.{Taking}
 use Rattle.xrf_ctl.specs.Control.{ControlRecord}
-use Rattle.xrf_cavm.specs.Record.{inc_of_owner, is_alt}
+use Rattle.xrf_cavm.specs.Record.{inc_of_owner}
 use Rattle.xrf_trace.specs.declared.entry.Entry.{Entry}
 use Rattle.xrf_trace.specs.declared.entry.Act.{Act}
 use Rattle.xrf_trace.specs.declared.entry.Act.TheVariants as act
@@ -16,9 +17,10 @@ changes_owner before _ = false
 abbrev pub is_through : List Entry → Entry → Bool
 is_through t e = lands e.land && changes_owner (control t) e.act
 
--- a takeover: a through whose writer was the alternate before it
-abbrev pub is_takeover : List Entry → Entry → Bool
-is_takeover t e = is_through t e && is_alt (control t) e.inc
+-- a taking is there, and is of this incarnation
+abbrev pub has_taking : Option Taking → ℕ → Bool
+has_taking None n = false
+has_taking (Some taking) n = taking.inc == n
 
 -- an update: a write of a message slot, the log, a keypoint or the file, whatever of it landed
 abbrev pub is_update : Act → Bool

@@ -3,7 +3,7 @@ use Rattle.std.specs.Prelude.{ℕ, ◌==◌, ◌&&◌, if◌then◌else◌, List
 use Rattle.xrf_msg.specs.declared.messages.Message.{Message}
 use Rattle.xrf_msg.specs.Messages.{epoch_of}
 use Rattle.xrf_terms.specs.declared.rows.Row.{Row}
-use Rattle.xrf_terms.specs.Tracking.{tracked_after}
+use Rattle.xrf_terms.specs.Tracking.{tracked as tracked_by}
 use Rattle.xrf_trace.specs.declared.entry.Entry.{Entry}
 use Rattle.xrf_trace.specs.declared.entry.Act.{Act}
 use Rattle.xrf_trace.specs.declared.entry.Act.TheVariants as act
@@ -19,10 +19,6 @@ abbrev pub messages : List Entry → ℕ → List Message
 messages [] n = []
 messages (e ∷ t) n = messages_after n e.act e.land (messages t n)
 
--- their fold from the empty table
-abbrev pub folded : List Message → List Row
-folded [] = []
-folded (message ∷ older) = tracked_after (folded older) message
-
+-- the table that they track
 abbrev pub tracked : List Entry → ℕ → List Row
-tracked t n = folded (messages t n)
+tracked t n = tracked_by (messages t n)

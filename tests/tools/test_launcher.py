@@ -1,0 +1,245 @@
+"""The launcher xrf, tools/build and the Makefile, over a checkout whose rt and program are stand-ins."""
+
+import os
+import pty
+import shutil
+import subprocess
+import tempfile
+import time
+import unittest
+from pathlib import Path
+
+ROOT = Path(__file__).resolve().parents[2]
+
+# A stand-in of rt: it notes its words, and builds the stand-in of the program for `rt run`.
+RT = """#!/usr/bin/env bash
+echo "$(basename "$PWD") $*" >>"$RT_CALLS"
+[ ! -e refuses ] || { echo "open goal of this crate"; exit 1; }
+mkdir -p out
+if [ "$1" = run ]; then cp ../../program.sh out/xrf; exec out/xrf replay; fi
+"""
+
+# A stand-in of the program: it writes its words and its input, and ends with the status that the input asks for.
+PROGRAM = """#!/usr/bin/env bash
+echo "words: $*"
+input=$(cat)
+echo "$input"
+case $input in status\\ *) exit "${input#status }" ;; esac
+"""
+
+CRATES = "# NAME: what it stands on\nlow:\nbeside: low\nmiddle: low byteorder\nxrf: middle low\n"
+
+
+class Checkout(unittest.TestCase):
+    def setUp(self) -> None:
+        self.room = Path(tempfile.mkdtemp(prefix="xrf-launcher-"))
+        self.addCleanup(shutil.rmtree, self.room)
+        self.home = self.room / "a checkout"
+        self.calls = self.room / "calls"
+        self.calls.write_text("")
+        self.lay_out()
+        self.env = {**os.environ, "PATH": f"{self.room}/bin:/usr/bin:/bin", "RT_CALLS": str(self.calls)}
+
+    def lay_out(self) -> None:
+        for name in ("low", "beside", "middle", "xrf"):
+            folder = self.home / "crates" / name
+            (folder / "src").mkdir(parents=True)
+            (folder / "src" / "lib.rt").write_text("//! A crate.\n")
+        (self.home / "crates/xrf/stdin").write_text("XRF 1\n")
+        (self.home / "crates.txt").write_text(CRATES)
+        (self.home / "program.sh").write_text(PROGRAM)
+        (self.home / "program.sh").chmod(0o755)
+        for name in ("xrf", "Makefile"):
+            shutil.copy(ROOT / name, self.home / name)
+        shutil.copytree(ROOT / "tools", self.home / "tools", ignore=shutil.ignore_patterns("__pycache__"))
+        (self.room / "bin").mkdir()
+        rt = self.room / "bin" / "rt"
+        rt.write_text(RT)
+        rt.chmod(0o755)
+
+    def run_xrf(self, *words: str, given: str = "", xrf: Path | str | None = None, **more) -> subprocess.CompletedProcess:
+        command = [str(xrf or self.home / "xrf"), *words]
+        more = {"env": self.env, "cwd": self.room, **more}
+        return subprocess.run(command, input=given, capture_output=True, text=True, timeout=60, **more)
+
+    def rt_calls(self) -> list[str]:
+        return self.calls.read_text().splitlines()
+
+
+class Words(Checkout):
+    def test_help_and_version_answer_and_build_nothing(self) -> None:
+        for word in ("--help", "-h", "--version"):
+            done = self.run_xrf(word)
+            self.assertEqual((done.returncode, done.stderr), (0, ""))
+            self.assertIn("xrf", done.stdout)
+        self.assertEqual(self.rt_calls(), [])
+
+    def test_no_words_build_nothing(self) -> None:
+        done = self.run_xrf()
+        self.assertEqual((done.returncode, done.stdout, self.rt_calls()), (12, "", []))
+        self.assertIn("--help", done.stderr)
+
+    def test_the_version_is_that_of_the_man_page(self) -> None:
+        version = self.run_xrf("--version").stdout.split()[1]
+        self.assertIn(f"xrf {version}", (ROOT / "tools/man/xrf.1").read_text().splitlines()[0])
+
+    def test_replay_takes_a_file_a_dash_or_standard_input(self) -> None:
+        scenario = self.room / "a scenario"
+        scenario.write_text("some lines\n")
+        for words, given in ((("replay", str(scenario)), ""), (("replay", "-"), "some lines\n"), (("replay",), "some lines\n")):
+            done = self.run_xrf(*words, given=given)
+            self.assertEqual((done.stdout, done.returncode), ("words: replay\nsome lines\n", 0))
+
+    def test_a_file_that_cannot_be_read_is_said_and_nothing_is_built(self) -> None:
+        for name in ("nowhere", str(self.room)):
+            done = self.run_xrf("replay", name)
+            self.assertEqual((done.returncode, done.stdout, done.stderr.count("\n")), (16, "", 1))
+            self.assertIn(name, done.stderr)
+        self.assertEqual(self.rt_calls(), [])
+
+    def test_other_words_go_to_the_program(self) -> None:
+        self.assertEqual(self.run_xrf("drive", "7", "0").stdout, "words: drive 7 0\n\n")
+        self.assertEqual(self.run_xrf("replay", "x", "y").stdout, "words: replay x y\n\n")
+
+    def test_each_status_has_its_message_on_standard_error_alone(self) -> None:
+        self.run_xrf("build")
+        seen = set()
+        for status in (8, 12, 16, 20, 24, 28, 3):
+            done = self.run_xrf("replay", given=f"status {status}")
+            self.assertEqual(done.returncode, status)
+            self.assertEqual(done.stdout, f"words: replay\nstatus {status}\n")
+            self.assertTrue(done.stderr.startswith("xrf: ") and done.stderr.endswith(f"(status {status})\n"))
+            seen.add(done.stderr.split("(")[0])
+        self.assertEqual(len(seen), 7)
+
+    def test_status_0_says_nothing(self) -> None:
+        self.run_xrf("build")
+        self.assertEqual(self.run_xrf("replay", given="x").stderr, "")
+
+    def test_a_terminal_as_standard_input_is_told(self) -> None:
+        self.run_xrf("build")
+        leader, follower = pty.openpty()
+        with subprocess.Popen([str(self.home / "xrf"), "replay"], stdin=follower, stdout=subprocess.PIPE,
+                              stderr=subprocess.PIPE, text=True, env=self.env) as child:
+            os.write(leader, b"lines\n\x04")
+            out, err = child.communicate(timeout=60)
+        os.close(leader)
+        os.close(follower)
+        self.assertIn("from the terminal", err)
+        self.assertEqual(out, "words: replay\nlines\n")
+
+
+class Places(Checkout):
+    def test_it_works_through_links_from_any_folder_with_cdpath_set(self) -> None:
+        links = self.room / "links"
+        links.mkdir()
+        (links / "one").symlink_to(self.home / "xrf")
+        (links / "two").symlink_to("one")
+        for xrf, folder in ((links / "two", links), ("./xrf", self.home), ("links/one", self.room)):
+            done = self.run_xrf("replay", given="x", xrf=xrf, cwd=folder, env={**self.env, "CDPATH": f"{self.home}:/"})
+            self.assertEqual((done.returncode, done.stdout), (0, "words: replay\nx\n"), done.stderr)
+
+
+class Building(Checkout):
+    def test_the_program_is_built_crate_by_crate_and_progress_is_said(self) -> None:
+        done = self.run_xrf("replay", given="x")
+        self.assertEqual(self.rt_calls(), ["low lib", "middle lib", "xrf run -- replay"])
+        self.assertEqual(done.stdout, "words: replay\nx\n")
+        for text in ("3 crates", "1 of 3: low", "2 of 3: middle", "3 of 3: xrf", "proved and built in"):
+            self.assertIn(text, done.stderr)
+
+    def test_it_is_built_again_exactly_where_a_source_of_it_is_newer(self) -> None:
+        self.run_xrf("build")
+        calls = len(self.rt_calls())
+        later = time.time() + 60
+        os.utime(self.home / "crates/beside/src/lib.rt", (later, later))
+        (self.home / "crates/low/src/notes.txt").write_text("no source\n")
+        os.utime(self.home / "crates/low/src/notes.txt", (later, later))
+        self.run_xrf("replay")
+        self.assertEqual(len(self.rt_calls()), calls)
+        os.utime(self.home / "crates/low/src/lib.rt", (later, later))
+        self.run_xrf("replay")
+        self.assertEqual(len(self.rt_calls()), 2 * calls)
+
+    def test_build_builds_and_takes_no_words(self) -> None:
+        self.assertEqual(self.run_xrf("build").returncode, 0)
+        self.assertEqual(len(self.rt_calls()), 3)
+        self.assertEqual(self.run_xrf("build", "all").returncode, 1)
+
+    def test_a_crate_that_is_refused_ends_the_build(self) -> None:
+        (self.home / "crates/middle/refuses").touch()
+        done = self.run_xrf("replay", given="x")
+        self.assertEqual((done.returncode, done.stdout), (1, ""))
+        self.assertIn("middle could not be proved", done.stderr)
+        self.assertIn("open goal of this crate", done.stderr)
+        self.assertIn("build.log", done.stderr)
+
+    def test_without_rt_the_program_is_run_as_built_or_missed(self) -> None:
+        without = {**self.env, "PATH": "/usr/bin:/bin"}
+        done = self.run_xrf("replay", given="x", env=without)
+        self.assertEqual((done.returncode, done.stderr), (1, "xrf: the program is not built, and rt is missing\n"))
+        self.run_xrf("build")
+        later = time.time() + 60
+        os.utime(self.home / "crates/low/src/lib.rt", (later, later))
+        done = self.run_xrf("replay", given="x", env=without)
+        self.assertEqual(done.stdout, "words: replay\nx\n")
+        self.assertIn("rt is missing", done.stderr)
+
+
+@unittest.skipUnless(shutil.which("make"), "make is missing")
+class Installing(Checkout):
+    def make(self, *words: str) -> None:
+        done = subprocess.run(["make", "-s", *words], cwd=self.home, env=self.env, capture_output=True, text=True)
+        self.assertEqual(done.returncode, 0, done.stderr)
+
+    def test_what_is_installed_runs_without_the_checkout_and_is_taken_away_again(self) -> None:
+        prefix = self.room / "a prefix"
+        self.make("install", f"PREFIX={prefix}")
+        shutil.move(self.home, self.room / "elsewhere")
+        done = self.run_xrf("replay", given="x", xrf=prefix / "bin/xrf")
+        self.assertEqual((done.returncode, done.stdout, done.stderr), (0, "words: replay\nx\n", ""))
+        self.assertEqual(self.run_xrf("build", xrf=prefix / "bin/xrf").returncode, 1)
+        for name in ("share/man/man1/xrf.1", "share/bash-completion/completions/xrf"):
+            self.assertTrue((prefix / name).is_file())
+        shutil.move(self.room / "elsewhere", self.home)
+        self.make("uninstall", f"PREFIX={prefix}")
+        self.assertEqual([it for it in prefix.rglob("*") if not it.is_dir()], [])
+
+    def test_destdir_stands_before_the_prefix(self) -> None:
+        self.make("install", "PREFIX=/usr", f"DESTDIR={self.room}/stage")
+        done = self.run_xrf("--version", xrf=self.room / "stage/usr/bin/xrf")
+        self.assertEqual(done.returncode, 0)
+
+
+class Texts(unittest.TestCase):
+    @unittest.skipUnless(shutil.which("shellcheck"), "shellcheck is missing")
+    def test_shellcheck_has_nothing_to_say(self) -> None:
+        scripts = ["xrf", "tools/build", "tools/completions/xrf.bash"]
+        done = subprocess.run(["shellcheck", "-s", "bash", *scripts], cwd=ROOT, capture_output=True, text=True)
+        self.assertEqual(done.stdout, "")
+
+    @unittest.skipUnless(shutil.which("groff"), "groff is missing")
+    def test_the_man_page_is_set_without_a_warning(self) -> None:
+        page = ROOT / "tools/man/xrf.1"
+        done = subprocess.run(["groff", "-man", "-Tutf8", "-ww", str(page)], capture_output=True, text=True)
+        self.assertEqual((done.returncode, done.stderr), (0, ""))
+        for status in ("0", "8", "12", "16", "20", "24", "28", "1"):
+            self.assertIn(f"\n.B {status}\n", page.read_text())
+
+    def complete(self, *words: str) -> list[str]:
+        script = ('source "$1"; shift; COMP_WORDS=("$@"); COMP_CWORD=$(($# - 1)); _xrf; '
+                  'printf "%s\\n" "${COMPREPLY[@]}"')
+        done = subprocess.run(["bash", "-c", script, "bash", str(ROOT / "tools/completions/xrf.bash"), *words],
+                              cwd=ROOT, capture_output=True, text=True)
+        return done.stdout.split()
+
+    def test_words_options_files_and_folders_are_completed(self) -> None:
+        self.assertEqual(self.complete("xrf", "re"), ["replay"])
+        self.assertEqual(self.complete("xrf", "draw", "--t"), ["--text"])
+        self.assertEqual(self.complete("xrf", "check", "--ac"), ["--accept"])
+        self.assertEqual(self.complete("xrf", "replay", "READ"), ["README.md"])
+        self.assertEqual(self.complete("xrf", "check", "tes"), ["tests"])
+
+
+if __name__ == "__main__":
+    unittest.main()

@@ -1,0 +1,81 @@
+"""The documents that the tests of the tools go over, and runs that are made for them."""
+
+from pathlib import Path
+
+from xrf_tools.document import Document, read
+
+ROOT = Path(__file__).resolve().parents[2]
+DOCUMENTS = ROOT / "tests" / "documents"
+TAKEOVER = "takeover_with_the_default_intervals"
+
+
+def names() -> list[str]:
+    return sorted(path.stem for path in DOCUMENTS.glob("*.out"))
+
+
+def path(name: str) -> Path:
+    return DOCUMENTS / f"{name}.out"
+
+
+def document(name: str) -> Document:
+    return read(name, path(name).read_text())
+
+
+class Long:
+    """A run of the most acts that a run may have: a region that works, with a round of both sites in each second."""
+
+    def __init__(self, most: int = 8192) -> None:
+        self.most = most
+        self.acts: list[str] = []
+        self.answers: list[str] = []
+        self.work: list[str] = []
+        self.tick = self.records = self.serial = 0
+
+    def act(self, site: str, incarnation: int, text: str) -> None:
+        if len(self.acts) < self.most:
+            self.acts.append(f"* ACT {len(self.acts) + 1} {self.tick} {site} {incarnation} {text}")
+
+    def acts_of(self, site: str, incarnation: int, *texts: str) -> None:
+        for text in texts:
+            self.act(site, incarnation, text)
+
+    def round(self, site: str, incarnation: int) -> None:
+        counter = self.tick + 1
+        self.acts_of(site, incarnation, f"SIGNAL1 {counter} 0", f"SIGNAL2 {counter} 0", "LOOK1", "LOOK2", "DECIDE NOTHING")
+
+    def start(self) -> None:
+        alone, both = "1 OWNER 1.A.RUNNING ALT NONE TAKING NONE", "2 OWNER 1.A.RUNNING ALT 2.B TAKING NONE"
+        self.acts_of("A", 0, "START ACTIVE", "RESERVE", "CTLREAD")
+        self.acts_of("A", 1, f"CTLWRITE {alone}", "RELEASE")
+        self.round("A", 1)
+        self.acts_of("A", 1, "LOGREAD 0", "RESTARTED")
+        self.acts_of("B", 0, "START STANDBY", "RESERVE", "CTLREAD")
+        self.acts_of("B", 2, f"CTLWRITE {both}", "RELEASE")
+        self.round("B", 2)
+
+    def unit(self) -> None:
+        self.serial += 1
+        unit, first = f"1.{self.serial}", self.records
+        for text in ("BEGIN U1", f"PUT U1 {self.serial % 16 + 1} V{self.serial}", "COMMIT U1"):
+            self.work.append(f"WORK A {text}")
+            self.act("A", 1, f"ITEM {len(self.work)}")
+            self.answers.append(f"* ITEM A {len(self.work)} DONE")
+            if text.startswith("PUT"):
+                record = text.split(" ")[2]
+                self.acts_of("A", 1, f"FILEREAD {record}", f"LOGBODY {first} PUT {unit} {record}",
+                             f"LOGOPEN {first} PUT {unit} {record}", f"FILEWRITE {unit} {record} V{self.serial}")
+            elif text.startswith("COMMIT"):
+                self.acts_of("A", 1, f"LOGBODY {first + 1} COMMIT {unit}", f"LOGOPEN {first + 1} COMMIT {unit}")
+        self.records += 2
+
+    def text(self) -> str:
+        self.start()
+        while len(self.acts) < self.most:
+            self.tick += 1
+            self.act("-", 0, "TICK")
+            self.round("A", 1)
+            self.round("B", 2)
+            for _ in range(3):
+                self.unit()
+        head = ["XRF 1", "LOG 1024", *self.work, "CHOICES", "END"]
+        return "\n".join([*head, *self.acts, *self.answers, f"* TICK {self.tick}", "* DONE", ""])

@@ -1,0 +1,96 @@
+"""Bad input of the tools is one clear line, and never a traceback."""
+
+import os
+import random
+import subprocess
+import sys
+import tempfile
+import unittest
+from pathlib import Path
+
+import runs
+from test_draw import call
+from xrf_tools.document import read
+from xrf_tools.errors import Fault
+from xrf_tools.picture.columns import columns
+from xrf_tools.picture.page import page
+from xrf_tools.scene import build
+
+
+class Faults(unittest.TestCase):
+    def fault(self, *words: str) -> str:
+        status, out, err = call(*words)
+        self.assertEqual((status, out, err.count("\n")), (1, "", 1), err)
+        self.assertTrue(err.startswith("xrf: "))
+        return err
+
+    def given(self, text: str) -> str:
+        handle, path = tempfile.mkstemp(suffix=".out")
+        os.close(handle)
+        self.addCleanup(os.unlink, path)
+        Path(path).write_text(text)
+        return path
+
+    def test_wrong_words(self) -> None:
+        self.fault()
+        self.fault("draw")
+        self.fault("draw", "--colour", "x")
+        self.fault("draw", "--width", "wide", "x")
+
+    def test_files_that_cannot_be_had(self) -> None:
+        self.assertIn("no such file", self.fault("draw", "nowhere.out"))
+        self.assertIn("directory", self.fault("draw", str(runs.ROOT)))
+
+    def test_what_is_no_document(self) -> None:
+        self.assertIn("refusal", self.fault("draw", self.given("XRF REFUSED LINE 7 NOT-ENABLED\n")))
+        self.assertIn("line 1", self.fault("draw", self.given("hello\n* DONE\n")))
+        self.assertIn("byte", self.fault("draw", self.given("XRF 1\nCHOICES\nEND\n* caf\u00e9\n")))
+        whole = runs.path(runs.TAKEOVER).read_text()
+        self.assertIn("no whole report", self.fault("draw", self.given(whole.replace("* DONE\n", ""))))
+        self.assertIn("act 299", self.fault("draw", self.given(whole.replace("B 2 UNDO 1", "B 2 UNDO 2"))))
+        self.assertIn("is no act", self.fault("draw", self.given(whole.replace("B 2 UNDO 1", "B 2 DO 1"))))
+
+    def test_a_page_that_cannot_be_written(self) -> None:
+        self.fault("draw", str(runs.path(runs.TAKEOVER)), "--output", "/nowhere/x.html")
+
+    def test_a_reader_that_ends_early_is_no_traceback(self) -> None:
+        command = f"{sys.executable} -B -m xrf_tools draw --text {runs.path('the_full_log')} | head -n 1"
+        done = subprocess.run(command, shell=True, capture_output=True, text=True, cwd=runs.ROOT / "tools")
+        self.assertEqual((done.stdout.count("\n"), done.stderr), (1, ""))
+
+    def test_documents_with_changed_words_are_drawn_or_told(self) -> None:
+        """Words, lines and letters are changed at random; what comes of it is a picture or a Fault."""
+        chance = random.Random(7)
+        names = [name for name in runs.names() if runs.path(name).stat().st_size < 9000]
+        drawn = 0
+        for _ in range(400):
+            text = self.changed(chance, runs.path(chance.choice(names)).read_text())
+            try:
+                scene = build(read("changed", text))
+                page(scene, "changed")
+                list(columns(scene, 100, False))
+                drawn += 1
+            except Fault:
+                pass
+        self.assertGreater(drawn, 20)
+
+    def changed(self, chance: random.Random, text: str) -> str:
+        lines = text.split("\n")
+        at, other = chance.randrange(len(lines)), chance.randrange(len(lines))
+        kind = chance.randrange(4)
+        if kind == 0:
+            del lines[at]
+        elif kind == 1:
+            lines[at] = lines[other]
+        elif kind == 2:
+            words = lines[at].split(" ")
+            words[chance.randrange(len(words))] = chance.choice(lines[other].split(" ") + ["0", "9999999999", "NONE", ""])
+            lines[at] = " ".join(words)
+        else:
+            place = chance.randrange(len(lines[at]) + 1)
+            lines[at] = lines[at][:place] + chance.choice("AB09. *<&") + lines[at][place + 1 :]
+        return "\n".join(lines)
+
+
+if __name__ == "__main__":
+    unittest.main()

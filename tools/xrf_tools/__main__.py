@@ -1,0 +1,102 @@
+"""The tools: draw, explain and check."""
+
+import argparse
+import os
+import shutil
+import sys
+from pathlib import Path
+from typing import NoReturn
+
+from xrf_tools.errors import Fault
+from xrf_tools.picture.columns import PLAIN, columns
+from xrf_tools.picture.page import page
+from xrf_tools.scene import build
+from xrf_tools.source import load
+
+GENERATOR = 'content="xrf draw"'
+
+
+class Parser(argparse.ArgumentParser):
+    """Wrong words are told in one line."""
+
+    def error(self, message: str) -> NoReturn:
+        raise Fault(f"{message} ({self.prog} --help says more)")
+
+
+def parser() -> Parser:
+    made = Parser(prog="xrf")
+    words = made.add_subparsers(dest="word", required=True, parser_class=Parser)
+    draw = words.add_parser("draw", help="a picture of a run")
+    draw.add_argument("file", metavar="FILE", help="what xrf replay wrote, or a scenario, or '-'")
+    draw.add_argument("--text", action="store_true", help="columns for a terminal in place of a page")
+    draw.add_argument("--width", type=int, default=0, metavar="N", help="letters of a line of the columns")
+    draw.add_argument("--output", metavar="OUT", help="the file to write; else standard output, and NAME.html where "
+                      "that is a terminal")
+    draw.set_defaults(call=run_draw)
+    return made
+
+
+def title_of(path: str) -> str:
+    return "a run" if path == "-" else Path(path).stem.replace("_", " ")
+
+
+def run_draw(given: argparse.Namespace) -> int:
+    scene = build(load(given.file))
+    if given.text:
+        is_terminal = sys.stdout.isatty() and not given.output
+        width = given.width or (shutil.get_terminal_size((120, 0)).columns if is_terminal else 120)
+        text = "\n".join(columns(scene, width, is_terminal and "NO_COLOR" not in os.environ)) + "\n"
+        if not given.output and not can_write(text):
+            text = text.translate(PLAIN)
+    else:
+        text = page(scene, title_of(given.file))
+    write(text, given.output or own_name(given))
+    return 0
+
+
+def can_write(text: str) -> bool:
+    try:
+        text.encode(sys.stdout.encoding or "ascii")
+    except UnicodeEncodeError:
+        return False
+    return True
+
+
+def own_name(given: argparse.Namespace) -> str:
+    """Where a page goes that is not to fill a terminal; '' for standard output."""
+    if given.text or not sys.stdout.isatty():
+        return ""
+    path = Path("run.html" if given.file == "-" else Path(given.file).stem + ".html")
+    if path.exists() and GENERATOR not in path.read_text(errors="replace")[:1000]:
+        raise Fault(f"{path} is there and was not drawn here; --output names another file")
+    return str(path)
+
+
+def write(text: str, path: str) -> None:
+    if not path:
+        sys.stdout.write(text)
+        sys.stdout.flush()
+        return
+    try:
+        Path(path).write_text(text, encoding="utf-8")
+    except OSError as error:
+        raise Fault(f"{path}: {(error.strerror or str(error)).lower()}") from None
+    print(f"xrf: {path} was written", file=sys.stderr)
+
+
+def main(words: list[str]) -> int:
+    try:
+        given = parser().parse_args(words)
+        return given.call(given)
+    except Fault as fault:
+        print(f"xrf: {fault}", file=sys.stderr)
+        return 1
+    except BrokenPipeError:
+        os.dup2(os.open(os.devnull, os.O_WRONLY), sys.stdout.fileno())
+        return 1
+    except KeyboardInterrupt:
+        return 130
+
+
+if __name__ == "__main__":
+    sys.exit(main(sys.argv[1:]))

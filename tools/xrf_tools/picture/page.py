@@ -1,0 +1,48 @@
+"""The page: one HTML text with the SVG, its style and its script inside, and nothing to load."""
+
+import json
+from html import escape
+from pathlib import Path
+from typing import Any
+
+from xrf_tools.picture import drawing
+from xrf_tools.picture.plan import Plan, plan
+from xrf_tools.scene import Scene
+
+HERE = Path(__file__).resolve().parent
+
+
+def told(scene: Scene, where: Plan) -> dict[str, Any]:
+    """What the script steps through: the acts, and what each changed; texts and keys that come again stand once."""
+    sentences: dict[str, int] = {}
+    keys: dict[str, int] = {}
+    acts = []
+    for place, row in enumerate(scene.rows):
+        for step in row.steps:
+            sentence = sentences.setdefault(step.sentence, len(sentences))
+            changes = [[keys.setdefault(key, len(keys)), value] for key, value in step.changes.items()]
+            acts.append([step.entry.line, sentence, where.tops[place], step.entry.tick, changes])
+    scenario = scene.document.scenario
+    return {
+        "first": scene.first, "acts": acts, "sentences": list(sentences), "keys": list(keys),
+        "applid": scenario.applid, "file": scenario.numbers["FILE"],
+    }
+
+
+def script_text(value: Any) -> str:
+    """JSON that may stand inside a script element."""
+    return json.dumps(value, separators=(",", ":")).replace("<", "\\u003c")
+
+
+def page(scene: Scene, title: str) -> str:
+    where = plan(scene)
+    picture = "\n".join(
+        f'<div class="hold" style="width:{where.width}px">{part}</div>' for part in drawing.parts(scene, where))
+    pieces = {
+        "TITLE": escape(title), "STYLE": (HERE / "page.css").read_text(), "SCRIPT": (HERE / "page.js").read_text(),
+        "HEADS": drawing.heads(scene, where), "PICTURE": picture, "WIDTH": str(where.width),
+        "DATA": script_text(told(scene, where)), "COUNT": str(len(scene.document.entries)),
+    }
+    text = (HERE / "page.html").read_text()
+    before, *rest = text.split("{{")
+    return before + "".join(pieces[name] + after for name, after in (piece.split("}}", 1) for piece in rest))

@@ -1,0 +1,55 @@
+"""Where everything stands in a picture, in pixels."""
+
+from dataclasses import dataclass
+
+from xrf_tools.scene import Scene, Span
+
+GUTTER = 72
+LANE = 296
+GAP = 26
+ROW = 20
+TICK = 18
+FOOT = 14
+SETS = {"CTL": 104, "MSG": 92, "LOG": 110, "KEY": 56, "FILE": 140}
+NAMES = {"CTL": "control", "MSG": "messages", "LOG": "unit log", "KEY": "keypoints", "FILE": "file"}
+# Beside each other at most this many units and messages; more of them lie over each other.
+MOST_BESIDE = 8
+
+
+@dataclass(frozen=True)
+class Plan:
+    """The x of each lane's line, and the top of each row."""
+
+    lines: dict[str, int]
+    tops: list[int]
+    heights: list[int]
+    width: int
+    height: int
+
+    def middle(self, row: int) -> int:
+        return self.tops[row] + self.heights[row] // 2
+
+    def reach(self, span: Span) -> tuple[int, int]:
+        """The first and last y of a span; one that is open reaches the end of the picture."""
+        last = self.height if span.how == "open" or self.is_to_the_end(span) else self.middle(span.last)
+        return self.middle(span.first), max(last, self.middle(span.first) + 4)
+
+    def is_to_the_end(self, span: Span) -> bool:
+        return span.kind == "life" and span.last == len(self.tops) - 1
+
+
+def plan(scene: Scene) -> Plan:
+    x = GUTTER + LANE
+    lines = {"A": x}
+    x += GAP
+    for name, width in SETS.items():
+        if name != "KEY" or scene.has_keypoints:
+            lines[name] = x + width // 2 - (20 if name == "FILE" else 0)
+            x += width
+    lines["B"] = x + GAP
+    tops, heights, y = [], [], 8
+    for row in scene.rows:
+        tops.append(y)
+        heights.append(TICK if row.is_tick else ROW)
+        y += heights[-1]
+    return Plan(lines, tops, heights, lines["B"] + LANE, y + FOOT)

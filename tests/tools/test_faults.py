@@ -14,7 +14,9 @@ from xrf_tools.document import read
 from xrf_tools.errors import Fault
 from xrf_tools.picture.columns import columns
 from xrf_tools.picture.page import page
+from xrf_tools.refusals import REASONS, Refused, told
 from xrf_tools.scene import build
+from xrf_tools.story import summed_up
 
 
 class Faults(unittest.TestCase):
@@ -42,7 +44,7 @@ class Faults(unittest.TestCase):
         self.assertIn("directory", self.fault("draw", str(runs.ROOT)))
 
     def test_what_is_no_document(self) -> None:
-        self.assertIn("refusal", self.fault("draw", self.given("XRF REFUSED LINE 7 NOT-ENABLED\n")))
+        self.assertIn("refused", self.fault("draw", self.given("XRF REFUSED LINE 7 NOT-ENABLED\n")))
         self.assertIn("line 1", self.fault("draw", self.given("hello\n* DONE\n")))
         self.assertIn("byte", self.fault("draw", self.given("XRF 1\nCHOICES\nEND\n* caf\u00e9\n")))
         whole = runs.path(runs.TAKEOVER).read_text()
@@ -69,10 +71,17 @@ class Faults(unittest.TestCase):
                 scene = build(read("changed", text))
                 page(scene, "changed")
                 list(columns(scene, 100, False))
+                list(summed_up(scene.document))
                 drawn += 1
             except Fault:
                 pass
         self.assertGreater(drawn, 20)
+
+    def test_every_reason_is_told_of_every_line(self) -> None:
+        lines = [*runs.path("the_paused_active").read_text().split("\n")[:40], "", "WORK", "WORK A", "PLAN", "PLAN 1", "X"]
+        for number in range(len(lines) + 2):
+            for reason in REASONS:
+                self.assertIn(reason, "\n".join(told(Refused(number, reason, lines), can_run=False)))
 
     def changed(self, chance: random.Random, text: str) -> str:
         lines = text.split("\n")

@@ -7,11 +7,14 @@ import sys
 from pathlib import Path
 from typing import NoReturn
 
+from xrf_tools.document import read
 from xrf_tools.errors import Fault
 from xrf_tools.picture.columns import PLAIN, columns
 from xrf_tools.picture.page import page
+from xrf_tools.refusals import read_refusal, told
 from xrf_tools.scene import build
-from xrf_tools.source import load
+from xrf_tools.source import REFUSED, given_and_written, load
+from xrf_tools.story import by_acts, summed_up
 
 GENERATOR = 'content="xrf draw"'
 
@@ -33,6 +36,11 @@ def parser() -> Parser:
     draw.add_argument("--output", metavar="OUT", help="the file to write; else standard output, and NAME.html where "
                       "that is a terminal")
     draw.set_defaults(call=run_draw)
+    explain = words.add_parser("explain", help="a run told in sentences, or why an input is refused")
+    explain.add_argument("file", metavar="FILE", help="what xrf replay wrote, or a scenario, or '-'")
+    explain.add_argument("answer", metavar="ANSWER", nargs="?", help="what was written of FILE; else it is replayed")
+    explain.add_argument("--acts", action="store_true", help="act by act")
+    explain.set_defaults(call=run_explain)
     return made
 
 
@@ -51,6 +59,17 @@ def run_draw(given: argparse.Namespace) -> int:
     else:
         text = page(scene, title_of(given.file))
     write(text, given.output or own_name(given))
+    return 0
+
+
+def run_explain(given: argparse.Namespace) -> int:
+    text, answer = given_and_written(given.file, given.answer)
+    if answer.startswith(REFUSED):
+        lines = told(read_refusal(answer, text), can_run=bool(text) and not given.answer)
+    else:
+        document = read("standard input" if given.file == "-" else given.file, answer)
+        lines = by_acts(document) if given.acts else summed_up(document)
+    write("\n".join(lines) + "\n", "")
     return 0
 
 

@@ -135,7 +135,8 @@ def control_write(m: Moment) -> str:
     if record.owner_state != was.owner_state:
         return f"{site} signs off {STATES.get(record.owner_state, 'anew')}."
     if was.alternate and not record.alternate:
-        return f"{site} {'leaves: it takes its name out of' if was.alternate_site == site else 'drops its alternate from'} the record."
+        leaves = was.alternate_site == site
+        return f"{site} {'leaves: it takes its name out of' if leaves else 'drops its alternate from'} the record."
     return f"{site} writes the control record."
 
 
@@ -158,7 +159,7 @@ def look_second(m: Moment) -> str:
 def decide(m: Moment) -> str:
     decision, what, site, other = m.words["decision"], m.words.get("what", ""), m.site, OTHER[m.site]
     if decision == "START":
-        return f"{site} decides to take over, {started(m, what)}."
+        return f"{site} decides to take over{started(m, what)}."
     if decision == "END":
         return f"{site} decides to leave: {ENDINGS.get(what, 'it is done')}."
     return {
@@ -181,9 +182,9 @@ def missed(m: Moment, whom: str, interval: str) -> str:
 
 def started(m: Moment, cause: str) -> str:
     if cause != "LOST":
-        return CAUSES.get(cause, "for a reason of its own")
+        return ", " + CAUSES.get(cause, "for a reason of its own")
     allowed = "the operator lets it" if m.job.has_go else "TAKEOVR lets it"
-    return f"since {missed(m, OTHER[m.site], 'ADI').replace(m.site, 'it', 1)}, and {allowed}"
+    return f": {missed(m, OTHER[m.site], 'ADI').replace(m.site, 'it', 1).replace(', and', ',')}, and {allowed}"
 
 
 def why_through(m: Moment) -> str:

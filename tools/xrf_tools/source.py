@@ -37,16 +37,31 @@ def replay(text: str) -> Answer:
     return Answer(done.stdout.decode("ascii", "replace"), done.returncode)
 
 
+def written(text: str, name: str) -> str:
+    """What the program writes of a scenario: a document or a refusal; Fault where it writes neither."""
+    answer = replay(text)
+    if answer.status not in (0, 8):
+        raise Fault(f"{name} did not run: {STATUSES.get(answer.status, 'the program failed')}")
+    return answer.text
+
+
+def name_of(path: str) -> str:
+    return "standard input" if path == "-" else path
+
+
 def load(path: str) -> Document:
     """The document in a file, or of the scenario in it."""
+    text, answer = given_and_written(path, None)
+    if answer.startswith(REFUSED):
+        raise Fault(f"{name_of(path)} is no run but refused: {answer.strip()}; xrf explain says more")
+    return read(name_of(path), answer)
+
+
+def given_and_written(path: str, answer: str | None) -> tuple[str, str]:
+    """A text, and what the program wrote of it; a refusal alone comes without its text."""
     text = read_text(path)
-    name = "standard input" if path == "-" else path
+    if answer is not None:
+        return text, read_text(answer)
     if text.startswith(REFUSED):
-        raise Fault(f"{name} is a refusal, and no run; xrf explain tells it")
-    if not has_report(text):
-        answer = replay(text)
-        if answer.status != 0:
-            said = answer.text.strip() if answer.status == 8 else STATUSES.get(answer.status, "the program failed")
-            raise Fault(f"{name} did not run: {said}; xrf explain says more")
-        text = answer.text
-    return read(name, text)
+        return "", text
+    return text, text if has_report(text) else written(text, name_of(path))

@@ -68,7 +68,8 @@ def mark(act: Act) -> str:
         return "✕"
     if act.verb in OPERATOR:
         return "▼"
-    return {"DECIDE": "◆", "ITEM": "■", "CLT": "■", "RESTARTED": "■", "ENDED": "✕"}.get(act.verb, "○" if act.reads else "●")
+    marks = {"DECIDE": "◆", "ITEM": "■", "CLT": "■", "RESTARTED": "■", "ENDED": "✕"}
+    return marks.get(act.verb, "○" if act.reads else "●")
 
 
 def arrow(line: list[str], columns: Columns, act: Act, site: str) -> None:

@@ -5,16 +5,25 @@ from pathlib import Path
 from xrf_tools.document import Document, read
 
 ROOT = Path(__file__).resolve().parents[2]
-DOCUMENTS = ROOT / "tests" / "documents"
+# Whole runs of a pair, a run that shows the bytes of the data sets, and the runs of the program's own tests.
+FOLDERS = [ROOT / "tests" / name for name in ("runs", "documents", "rows")]
 TAKEOVER = "takeover_with_the_default_intervals"
 
 
+def found() -> dict[str, Path]:
+    paths = [path for folder in FOLDERS for path in sorted(folder.glob("*.out"))]
+    return {path.stem: path for path in paths if "\n* DONE\n" in path.read_text()}
+
+
+PATHS = found()
+
+
 def names() -> list[str]:
-    return sorted(path.stem for path in DOCUMENTS.glob("*.out"))
+    return sorted(PATHS)
 
 
 def path(name: str) -> Path:
-    return DOCUMENTS / f"{name}.out"
+    return PATHS[name]
 
 
 def document(name: str) -> Document:

@@ -2,6 +2,7 @@
 
 import os
 import pty
+import re
 import shutil
 import subprocess
 import tempfile
@@ -166,6 +167,20 @@ class Building(Checkout):
         self.assertEqual(len(self.rt_calls()), 3)
         self.assertEqual(self.run_xrf("build", "all").returncode, 1)
 
+    def test_the_program_is_built_and_its_place_is_printed(self) -> None:
+        done = self.run_xrf("--program")
+        self.assertEqual(done.stdout, f"{self.home}/crates/xrf/out/xrf\n")
+        self.assertEqual(len(self.rt_calls()), 3)
+
+    def test_check_runs_the_program_that_is_built(self) -> None:
+        folder = self.room / "rows"
+        folder.mkdir()
+        (folder / "one.in").write_text("x\n")
+        (folder / "one.args").write_text("other\n")
+        (folder / "one.out").write_text("words: other\nx\n")
+        done = self.run_xrf("check", "rows")
+        self.assertEqual((done.returncode, done.stdout.splitlines()[-1]), (0, "1 passed, 0 failed"), done.stderr)
+
     def test_a_crate_that_is_refused_ends_the_build(self) -> None:
         (self.home / "crates/middle/refuses").touch()
         done = self.run_xrf("replay", given="x")
@@ -214,7 +229,7 @@ class Installing(Checkout):
 class Texts(unittest.TestCase):
     @unittest.skipUnless(shutil.which("shellcheck"), "shellcheck is missing")
     def test_shellcheck_has_nothing_to_say(self) -> None:
-        scripts = ["xrf", "tools/build", "tools/completions/xrf.bash"]
+        scripts = ["xrf", "tools/build", "tools/completions/xrf.bash", "tests/run"]
         done = subprocess.run(["shellcheck", "-s", "bash", *scripts], cwd=ROOT, capture_output=True, text=True)
         self.assertEqual(done.stdout, "")
 
@@ -225,6 +240,16 @@ class Texts(unittest.TestCase):
         self.assertEqual((done.returncode, done.stderr), (0, ""))
         for status in ("0", "8", "12", "16", "20", "24", "28", "1"):
             self.assertIn(f"\n.B {status}\n", page.read_text())
+
+    def test_every_option_of_the_tools_stands_in_the_man_page_and_the_completions(self) -> None:
+        page = (ROOT / "tools/man/xrf.1").read_text().replace("\\-", "-")
+        completions = (ROOT / "tools/completions/xrf.bash").read_text()
+        for word in ("draw", "explain", "check"):
+            done = subprocess.run([str(ROOT / "xrf"), word, "--help"], capture_output=True, text=True)
+            self.assertEqual(done.returncode, 0)
+            for option in set(re.findall(r"--[a-z]+", done.stdout)) - {"--help"}:
+                self.assertIn(option, page)
+                self.assertIn(option, completions)
 
     def complete(self, *words: str) -> list[str]:
         script = ('source "$1"; shift; COMP_WORDS=("$@"); COMP_CWORD=$(($# - 1)); _xrf; '

@@ -3,13 +3,13 @@ _xrf() {
   local word=${COMP_WORDS[COMP_CWORD]} verb=${COMP_WORDS[1]-}
   COMPREPLY=()
   if [ "$COMP_CWORD" -eq 1 ]; then
-    mapfile -t COMPREPLY < <(compgen -W "replay draw explain check build --help --version" -- "$word")
+    mapfile -t COMPREPLY < <(compgen -W "replay draw explain check build --help --version --program" -- "$word")
     return
   fi
   case $verb:$word in
     draw:-*) mapfile -t COMPREPLY < <(compgen -W "--text --width --output --help" -- "$word") ;;
     explain:-*) mapfile -t COMPREPLY < <(compgen -W "--acts --help" -- "$word") ;;
-    check:-*) mapfile -t COMPREPLY < <(compgen -W "--accept --junit --program --jobs --timeout --quiet --help" -- "$word") ;;
+    check:-*) mapfile -t COMPREPLY < <(compgen -W "--accept --strict --junit --program --jobs --timeout --quiet --help" -- "$word") ;;
     check:*) mapfile -t COMPREPLY < <(compgen -d -- "$word") ;;
     replay:* | draw:* | explain:*) mapfile -t COMPREPLY < <(compgen -f -- "$word") ;;
   esac

@@ -7,13 +7,14 @@ import sys
 from pathlib import Path
 from typing import NoReturn
 
+from xrf_tools.checking import Checking, check_all, junit, scenarios, table
 from xrf_tools.document import read
 from xrf_tools.errors import Fault
 from xrf_tools.picture.columns import PLAIN, columns
 from xrf_tools.picture.page import page
 from xrf_tools.refusals import read_refusal, told
 from xrf_tools.scene import build
-from xrf_tools.source import REFUSED, given_and_written, load
+from xrf_tools.source import REFUSED, built_program, given_and_written, load
 from xrf_tools.story import by_acts, summed_up
 
 GENERATOR = 'content="xrf draw"'
@@ -41,6 +42,16 @@ def parser() -> Parser:
     explain.add_argument("answer", metavar="ANSWER", nargs="?", help="what was written of FILE; else it is replayed")
     explain.add_argument("--acts", action="store_true", help="act by act")
     explain.set_defaults(call=run_explain)
+    check = words.add_parser("check", help="runs each scenario of a folder and compares with its stored output")
+    check.add_argument("folders", metavar="DIR", nargs="+", help="a folder with NAME.in, NAME.out, NAME.args, NAME.status")
+    check.add_argument("--accept", action="store_true", help="store the output of a scenario that has none")
+    check.add_argument("--strict", action="store_true", help="what is new has failed")
+    check.add_argument("--junit", metavar="OUT", help="write the results as JUnit XML too")
+    check.add_argument("--program", metavar="PROGRAM", help="the program to run; else the one that is built here")
+    check.add_argument("--jobs", type=int, default=0, metavar="N", help="runs at one time; else one for each processor")
+    check.add_argument("--timeout", type=float, default=120, metavar="S", help="the most seconds of a run")
+    check.add_argument("--quiet", action="store_true", help="tell only what did not pass")
+    check.set_defaults(call=run_check)
     return made
 
 
@@ -71,6 +82,21 @@ def run_explain(given: argparse.Namespace) -> int:
         lines = by_acts(document) if given.acts else summed_up(document)
     write("\n".join(lines) + "\n", "")
     return 0
+
+
+def run_check(given: argparse.Namespace) -> int:
+    if given.jobs < 0 or given.timeout <= 0:
+        raise Fault("--jobs and --timeout are above 0")
+    places = scenarios(given.folders)
+    checking = Checking(given.program or built_program(), given.timeout, given.accept)
+    if not os.access(checking.program, os.X_OK):
+        raise Fault(f"{checking.program} is no program")
+    results = check_all(checking, places, given.jobs)
+    write("\n".join(table(results, given.quiet)) + "\n", "")
+    if given.junit:
+        write(junit(results), given.junit)
+    bad = ("failed", "new") if given.strict else ("failed",)
+    return 1 if any(result.kind in bad for result in results) else 0
 
 
 def can_write(text: str) -> bool:

@@ -37,6 +37,17 @@ def replay(text: str) -> Answer:
     return Answer(done.stdout.decode("ascii", "replace"), done.returncode)
 
 
+def built_program() -> str:
+    """Where the program is, which the launcher builds first where it has to."""
+    try:
+        done = subprocess.run([launcher(), "--program"], stdout=subprocess.PIPE, text=True, check=False)
+    except OSError as error:
+        raise Fault(f"the program could not be found: {error.strerror}") from None
+    if done.returncode != 0:
+        raise Fault("there is no program to run")
+    return done.stdout.strip()
+
+
 def written(text: str, name: str) -> str:
     """What the program writes of a scenario: a document or a refusal; Fault where it writes neither."""
     answer = replay(text)

@@ -14,9 +14,9 @@ from xrf_tools.__main__ import main
 from xrf_tools.document import read
 from xrf_tools.picture import drawing
 from xrf_tools.picture.columns import columns
-from xrf_tools.picture.page import page
+from xrf_tools.picture.page import page, svg
 from xrf_tools.picture.plan import plan
-from xrf_tools.scene import Scene, Span, build
+from xrf_tools.scene import Scene, Span, build, part_of
 
 
 def call(*words: str) -> tuple[int, str, str]:
@@ -127,6 +127,43 @@ class Page(unittest.TestCase):
     def parts(self, name: str) -> list[str]:
         scene = build(runs.document(name))
         return list(drawing.parts(scene, plan(scene)))
+
+
+class Svg(unittest.TestCase):
+    """The picture alone, and the part of it that some acts make; those of docs/ are as they would be drawn."""
+
+    PICTURES = {
+        "unit_of_work": ("ordinary_unit_of_work", "1-26"), "tracking": (runs.TAKEOVER, "13-70"),
+        "takeover": (runs.TAKEOVER, "267-302"), "paused_active": ("the_paused_active", "48-94"),
+        "backout": ("stop_in_the_opening_write_of_a_commit_that_leaves_it_closed", "13-43"),
+    }
+
+    def test_the_pictures_of_the_docs_are_those_that_are_drawn(self) -> None:
+        folder = runs.ROOT / "docs" / "pictures"
+        self.assertEqual({path.stem for path in folder.iterdir()}, set(self.PICTURES))
+        for name, (run, acts) in self.PICTURES.items():
+            status, out, err = call("draw", "--svg", "--acts", acts, str(runs.path(run)))
+            self.assertEqual((status, err), (0, ""))
+            self.assertEqual(out, (folder / f"{name}.svg").read_text(), f"draw {name}.svg again")
+            self.assertLess(len(out), 40_000)
+
+    def test_a_part_has_its_acts_and_the_spans_that_reach_it(self) -> None:
+        scene = part_of(build(runs.document(runs.TAKEOVER)), 54, 70)
+        self.assertEqual([row.steps[0].entry.number for row in scene.rows], [54, 55, 56, 57, 58, 59, 60, 65, 66, 67, 68, 69, 70])
+        (unit,) = [span for span in scene.spans if span.kind == "unit"]
+        self.assertEqual((unit.label, unit.first, unit.how, unit.marks), ("U2", 0, "open", [4]))
+        (owner,) = [span for span in scene.spans if span.kind == "owner"]
+        self.assertEqual((owner.first, owner.last, owner.how), (0, 12, "open"))
+
+    def test_it_is_well_formed_for_every_document(self) -> None:
+        for name in runs.names():
+            ElementTree.fromstring(svg(build(runs.document(name)), name))
+
+    def test_bad_words_are_one_line(self) -> None:
+        path = str(runs.path(runs.TAKEOVER))
+        for words in (["--acts", "1-5"], ["--svg", "--acts", "5"], ["--svg", "--acts", "7-3"], ["--svg", "--text"]):
+            status, out, err = call("draw", *words, path)
+            self.assertEqual((status, out, err.count("\n")), (1, "", 1), words)
 
 
 class Closing(HTMLParser):

@@ -80,9 +80,10 @@ class Words(Checkout):
         self.assertEqual((done.returncode, done.stdout, self.rt_calls()), (12, "", []))
         self.assertIn("--help", done.stderr)
 
-    def test_the_version_is_that_of_the_man_page(self) -> None:
+    def test_the_version_is_that_of_the_man_page_and_of_the_newest_change(self) -> None:
         version = self.run_xrf("--version").stdout.split()[1]
         self.assertIn(f"xrf {version}", (ROOT / "tools/man/xrf.1").read_text().splitlines()[0])
+        self.assertEqual(re.findall(r"^## (.*)$", (ROOT / "CHANGELOG.md").read_text(), re.M)[0], version)
 
     def test_replay_takes_a_file_a_dash_or_standard_input(self) -> None:
         scenario = self.room / "a scenario"
@@ -214,6 +215,9 @@ class Installing(Checkout):
         done = self.run_xrf("replay", given="x", xrf=prefix / "bin/xrf")
         self.assertEqual((done.returncode, done.stdout, done.stderr), (0, "words: replay\nx\n", ""))
         self.assertEqual(self.run_xrf("build", xrf=prefix / "bin/xrf").returncode, 1)
+        run = str(ROOT / "tests/rows/ordinary_unit_of_work.out")
+        self.assertIn("<svg", self.run_xrf("draw", run, xrf=prefix / "bin/xrf").stdout)
+        self.assertIn("committed", self.run_xrf("explain", run, xrf=prefix / "bin/xrf").stdout)
         for name in ("share/man/man1/xrf.1", "share/bash-completion/completions/xrf"):
             self.assertTrue((prefix / name).is_file())
         shutil.move(self.room / "elsewhere", self.home)

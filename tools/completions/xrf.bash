@@ -7,7 +7,7 @@ _xrf() {
     return
   fi
   case $verb:$word in
-    draw:-*) mapfile -t COMPREPLY < <(compgen -W "--text --width --output --help" -- "$word") ;;
+    draw:-*) mapfile -t COMPREPLY < <(compgen -W "--text --svg --acts --width --output --help" -- "$word") ;;
     explain:-*) mapfile -t COMPREPLY < <(compgen -W "--acts --help" -- "$word") ;;
     check:-*) mapfile -t COMPREPLY < <(compgen -W "--accept --strict --junit --program --jobs --timeout --quiet --help" -- "$word") ;;
     check:*) mapfile -t COMPREPLY < <(compgen -d -- "$word") ;;

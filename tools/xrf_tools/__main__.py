@@ -2,6 +2,7 @@
 
 import argparse
 import os
+import re
 import shutil
 import sys
 from pathlib import Path
@@ -11,9 +12,9 @@ from xrf_tools.checking import Checking, check_all, junit, scenarios, table
 from xrf_tools.document import read
 from xrf_tools.errors import Fault
 from xrf_tools.picture.columns import PLAIN, columns
-from xrf_tools.picture.page import page
+from xrf_tools.picture.page import page, svg
 from xrf_tools.refusals import read_refusal, told
-from xrf_tools.scene import build
+from xrf_tools.scene import Scene, build, part_of
 from xrf_tools.source import REFUSED, built_program, given_and_written, load
 from xrf_tools.story import by_acts, summed_up
 
@@ -33,6 +34,8 @@ def parser() -> Parser:
     draw = words.add_parser("draw", help="a picture of a run")
     draw.add_argument("file", metavar="FILE", help="what xrf replay wrote, or a scenario, or '-'")
     draw.add_argument("--text", action="store_true", help="columns for a terminal in place of a page")
+    draw.add_argument("--svg", action="store_true", help="the picture alone, as SVG, in place of a page")
+    draw.add_argument("--acts", metavar="K-L", help="of the columns or the SVG only the rows of acts K to L")
     draw.add_argument("--width", type=int, default=0, metavar="N", help="letters of a line of the columns")
     draw.add_argument("--output", metavar="OUT", help="the file to write; else standard output, and NAME.html where "
                       "that is a terminal")
@@ -60,17 +63,34 @@ def title_of(path: str) -> str:
 
 
 def run_draw(given: argparse.Namespace) -> int:
+    if given.text and given.svg:
+        raise Fault("--text and --svg are two pictures; ask for one")
+    if given.acts and not (given.text or given.svg):
+        raise Fault("--acts goes with --text or --svg")
     scene = build(load(given.file))
+    if given.acts:
+        scene = part_of(scene, *acts_of(given.acts))
     if given.text:
-        is_terminal = sys.stdout.isatty() and not given.output
-        width = given.width or (shutil.get_terminal_size((120, 0)).columns if is_terminal else 120)
-        text = "\n".join(columns(scene, width, is_terminal and "NO_COLOR" not in os.environ)) + "\n"
-        if not given.output and not can_write(text):
-            text = text.translate(PLAIN)
+        text = text_of(scene, given)
     else:
-        text = page(scene, title_of(given.file))
+        text = (svg if given.svg else page)(scene, title_of(given.file))
     write(text, given.output or own_name(given))
     return 0
+
+
+def acts_of(text: str) -> tuple[int, int]:
+    match = re.fullmatch(r"(\d{1,5})-(\d{1,5})", text)
+    if match is None or int(match[1]) > int(match[2]):
+        raise Fault(f"--acts wants two numbers, as 13-40, and not '{text}'")
+    return int(match[1]), int(match[2])
+
+
+def text_of(scene: Scene, given: argparse.Namespace) -> str:
+    """The columns, in letters that standard output can take."""
+    is_terminal = sys.stdout.isatty() and not given.output
+    width = given.width or (shutil.get_terminal_size((120, 0)).columns if is_terminal else 120)
+    text = "\n".join(columns(scene, width, is_terminal and "NO_COLOR" not in os.environ)) + "\n"
+    return text if given.output or can_write(text) else text.translate(PLAIN)
 
 
 def run_explain(given: argparse.Namespace) -> int:
@@ -109,7 +129,7 @@ def can_write(text: str) -> bool:
 
 def own_name(given: argparse.Namespace) -> str:
     """Where a page goes that is not to fill a terminal; '' for standard output."""
-    if given.text or not sys.stdout.isatty():
+    if given.text or given.svg or not sys.stdout.isatty():
         return ""
     path = Path("run.html" if given.file == "-" else Path(given.file).stem + ".html")
     if path.exists() and GENERATOR not in path.read_text(errors="replace")[:1000]:

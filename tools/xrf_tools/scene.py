@@ -4,7 +4,7 @@ A scene has rows from top to bottom, an act each, or the acts of a round togethe
 rows: a job in its states, the owner, the reserve, a taking, a unit of work, and a message from writer to reader.
 """
 
-from dataclasses import dataclass, field
+from dataclasses import dataclass, field, replace
 
 from xrf_tools.document import Document, Entry
 from xrf_tools.meaning import tell
@@ -213,3 +213,23 @@ def build(document: Document) -> Scene:
         if span.kind == "message" and span.how == "open":
             span.last, span.how = span.first, "unread"
     return scene
+
+
+def part_of(scene: Scene, first: int, last: int) -> Scene:
+    """The rows that have an act from `first` to `last`, with the spans that reach them."""
+    there = [place for place, row in enumerate(scene.rows)
+             if row.steps[-1].entry.number >= first and row.steps[0].entry.number <= last]
+    part = Scene(scene.document, scene.first, [scene.rows[place] for place in there])
+    if there:
+        part.spans = [cut_span(span, there[0], there[-1]) for span in scene.spans
+                      if span.first <= there[-1] and span.last >= there[0]]
+    return part
+
+
+def cut_span(span: Span, first: int, last: int) -> Span:
+    """The span within these rows, counted from the first of them; one that goes on is open."""
+    goes_on = span.last > last
+    kept = max(span.first, first), min(span.last, last)
+    marks = [row - first for row in span.marks if first <= row <= last]
+    how = "open" if goes_on and span.kind != "life" else span.how
+    return replace(span, first=kept[0] - first, last=kept[1] - first, marks=marks, how=how)

@@ -9,16 +9,17 @@ from xrf_tools.picture.words import OPERATOR, cut, state_of, words_of
 from xrf_tools.scene import Row, Scene, Span, Step
 
 PART = 64
+HEAD = 36
 MOST_LETTERS = 39
 # How far apart the marks of a round stand.
 BESIDE = 13
 
 
-def parts(scene: Scene, plan: Plan) -> Iterator[str]:
-    """The parts from top to bottom, each an SVG of its own."""
+def parts(scene: Scene, plan: Plan, size: int = PART) -> Iterator[str]:
+    """The parts from top to bottom, of `size` rows each, each an SVG of its own."""
     count = len(scene.rows)
-    for first in range(0, count, PART):
-        last = min(first + PART, count)
+    for first in range(0, count, size):
+        last = min(first + size, count)
         top = 0 if first == 0 else plan.tops[first]
         bottom = plan.height if last == count else plan.tops[last]
         drawn = [lines(plan, top, bottom)]
@@ -143,7 +144,8 @@ def text_of(row: Row, x: int, y: int) -> str:
     step = row.steps[-1]
     act = step.entry.act
     state = state_of(step)
-    text = cut(words_of(row), MOST_LETTERS - len(state) - (8 if row.is_round else 0))
+    taken = (len(state) + 3 if state else 0) + (8 if row.is_round else 0)
+    text = cut(words_of(row), MOST_LETTERS - taken)
     css = "act stop" if act.how in ("stopped", "failed") else "act operator" if act.verb in OPERATOR else "act"
     anchor = ' text-anchor="end"' if row.site == "A" else ""
     tag = f'<tspan class="state"> → {state}</tspan>' if state else ""
@@ -213,4 +215,5 @@ def heads(scene: Scene, plan: Plan) -> str:
             drawn.append(f'<text class="head {name}" x="{at}" y="26" text-anchor="{anchor}">{applid[name]} at site {name}</text>')
         else:
             drawn.append(f'<text class="head" x="{x}" y="26" text-anchor="middle">{NAMES[name]}</text>')
-    return f'<svg class="heads" width="{plan.width}" height="36" viewBox="0 0 {plan.width} 36">{"".join(drawn)}</svg>'
+    box = f'width="{plan.width}" height="{HEAD}" viewBox="0 0 {plan.width} {HEAD}"'
+    return f'<svg class="heads" {box}>{"".join(drawn)}</svg>'

@@ -34,12 +34,28 @@ def script_text(value: Any) -> str:
     return json.dumps(value, separators=(",", ":")).replace("<", "\\u003c")
 
 
+def style() -> str:
+    """The colours and the shapes of a picture."""
+    return (HERE / "picture.css").read_text()
+
+
+def svg(scene: Scene, title: str) -> str:
+    """The picture by itself, as one SVG with its style inside."""
+    where = plan(scene)
+    height = drawing.HEAD + where.height
+    (body,) = drawing.parts(scene, where, len(scene.rows) or 1) if scene.rows else ("",)
+    return (f'<svg xmlns="http://www.w3.org/2000/svg" width="{where.width}" height="{height}" '
+            f'viewBox="0 0 {where.width} {height}"><title>{escape(title)}</title><style>{style()}</style>'
+            f'<rect width="100%" height="100%" fill="var(--paper)"/>{drawing.heads(scene, where)}'
+            f'<svg y="{drawing.HEAD}" height="{where.height}">{body}</svg></svg>\n')
+
+
 def page(scene: Scene, title: str) -> str:
     where = plan(scene)
     picture = "\n".join(
         f'<div class="hold" style="width:{where.width}px">{part}</div>' for part in drawing.parts(scene, where))
     pieces = {
-        "TITLE": escape(title), "STYLE": (HERE / "page.css").read_text(), "SCRIPT": (HERE / "page.js").read_text(),
+        "TITLE": escape(title), "STYLE": style() + (HERE / "page.css").read_text(), "SCRIPT": (HERE / "page.js").read_text(),
         "HEADS": drawing.heads(scene, where), "PICTURE": picture, "WIDTH": str(where.width),
         "DATA": script_text(told(scene, where)), "COUNT": str(len(scene.document.entries)),
     }

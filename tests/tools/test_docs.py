@@ -1,0 +1,82 @@
+"""What README, the man page and docs/CONCEPTS.md tell a user to type is run, and what they point to is there."""
+
+import os
+import re
+import shutil
+import subprocess
+import tempfile
+import unittest
+from pathlib import Path
+
+import runs
+
+PROGRAM = runs.ROOT / "crates" / "xrf" / "out" / "xrf"
+README = (runs.ROOT / "README.md").read_text()
+MAN = (runs.ROOT / "tools" / "man" / "xrf.1").read_text()
+
+
+def commands() -> list[str]:
+    """The commands of the launcher in README and in the examples of the man page."""
+    of_readme = re.findall(r"^    (\./xrf [^#\n]*?) *(?:#.*)?$", README, re.M)
+    of_man = re.findall(r"^xrf .*$", MAN.split(".SH EXAMPLES")[1], re.M)
+    return of_readme + [line.replace("xrf ", "./xrf ").replace("&& ./", "&& ") for line in of_man]
+
+
+def wants_program(command: str) -> bool:
+    return "replay" in command or " check " in command or ".in" in command
+
+
+def is_current() -> bool:
+    return subprocess.run([str(runs.ROOT / "tools" / "build"), "--is-current"], check=False).returncode == 0
+
+
+class Commands(unittest.TestCase):
+    def run_in_room(self, command: str) -> subprocess.CompletedProcess:
+        """Runs a command over a copy of the scenarios, so that nothing is left in the checkout."""
+        with tempfile.TemporaryDirectory() as room:
+            for name in ("examples", "tests/rows"):
+                shutil.copytree(runs.ROOT / name, Path(room) / name)
+            os.symlink(runs.ROOT / "xrf", Path(room) / "xrf")
+            command = command.replace("DIR", "examples")
+            return subprocess.run(["bash", "-c", f"PATH=.:$PATH; {command}"], cwd=room, capture_output=True, text=True,
+                                  timeout=120, check=False)
+
+    def check(self, command: str) -> None:
+        done = self.run_in_room(command)
+        self.assertEqual((done.returncode, done.stderr), (0, done.stderr if "--junit" in command else ""), command)
+
+    def test_what_needs_no_program_runs(self) -> None:
+        found = [command for command in commands() if not wants_program(command)]
+        self.assertGreaterEqual(len(found), 3)
+        for command in found:
+            self.check(command)
+
+    @unittest.skipUnless(is_current(), "the program is not built, so what README types with it was not run")
+    def test_what_needs_the_program_runs(self) -> None:
+        for command in filter(wants_program, commands()):
+            self.check(command)
+
+    @unittest.skipUnless(is_current(), "the program is not built, so the short session of README was not run")
+    def test_the_short_session_is_what_is_written(self) -> None:
+        text = "\n".join(re.findall(r"^    (.*)$", README.split("## A short session")[1].split("\n## ")[0], re.M))
+        for block in text.split("$ ")[1:]:
+            command, _, wanted = block.partition("\n")
+            done = self.run_in_room(command.split("; echo")[0])
+            got = done.stdout + (f"{done.returncode}\n" if "; echo $?" in command else "")
+            pattern = re.escape(wanted.rstrip("\n")).replace(r"\.\.", r"(?s:.*)")
+            self.assertRegex(got.rstrip("\n"), f"^{pattern}$", command)
+
+
+class Links(unittest.TestCase):
+    def test_files_that_pages_name_are_there(self) -> None:
+        for page in ("README.md", "docs/CONCEPTS.md", "docs/FORMATS.md", "CHANGELOG.md", "tools/editors/README.md"):
+            text = (runs.ROOT / page).read_text()
+            for name in re.findall(r"\]\(([^)]+)\)", text):
+                self.assertTrue((runs.ROOT / page).parent.joinpath(name).exists(), f"{page}: {name}")
+            for name in re.findall(r"`((?:docs|tests|tools|examples|bench)/[\w./]*)`", text):
+                found = list(runs.ROOT.glob(name.rstrip("/") + "*"))
+                self.assertTrue(found, f"{page}: {name}")
+
+
+if __name__ == "__main__":
+    unittest.main()

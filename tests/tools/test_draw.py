@@ -2,7 +2,11 @@
 
 import contextlib
 import io
+import os
+import pty
 import re
+import subprocess
+import sys
 import tempfile
 import unittest
 import xml.etree.ElementTree as ElementTree
@@ -132,19 +136,15 @@ class Page(unittest.TestCase):
 class Svg(unittest.TestCase):
     """The picture alone, and the part of it that some acts make; those of docs/ are as they would be drawn."""
 
-    PICTURES = {
-        "unit_of_work": ("ordinary_unit_of_work", "1-26"), "tracking": (runs.TAKEOVER, "13-70"),
-        "takeover": (runs.TAKEOVER, "267-302"), "paused_active": ("the_paused_active", "48-94"),
-        "backout": ("stop_in_the_opening_write_of_a_commit_that_leaves_it_closed", "13-43"),
-    }
-
     def test_the_pictures_of_the_docs_are_those_that_are_drawn(self) -> None:
         folder = runs.ROOT / "docs" / "pictures"
-        self.assertEqual({path.stem for path in folder.iterdir()}, set(self.PICTURES))
-        for name, (run, acts) in self.PICTURES.items():
-            status, out, err = call("draw", "--svg", "--acts", acts, str(runs.path(run)))
+        script = (runs.ROOT / "tools" / "pictures").read_text()
+        pictures = re.findall(r"^picture (\w+) (\S+) (\S+)$", script, re.M)
+        self.assertEqual({path.stem for path in folder.iterdir()}, {name for name, _, _ in pictures})
+        for name, acts, run in pictures:
+            status, out, err = call("draw", "--svg", "--acts", acts, str(runs.ROOT / "tests" / f"{run}.out"))
             self.assertEqual((status, err), (0, ""))
-            self.assertEqual(out, (folder / f"{name}.svg").read_text(), f"draw {name}.svg again")
+            self.assertEqual(out, (folder / f"{name}.svg").read_text(), f"tools/pictures draws {name}.svg again")
             self.assertLess(len(out), 40_000)
 
     def test_a_part_has_its_acts_and_the_spans_that_reach_it(self) -> None:
@@ -164,6 +164,41 @@ class Svg(unittest.TestCase):
         for words in (["--acts", "1-5"], ["--svg", "--acts", "5"], ["--svg", "--acts", "7-3"], ["--svg", "--text"]):
             status, out, err = call("draw", *words, path)
             self.assertEqual((status, out, err.count("\n")), (1, "", 1), words)
+
+
+class OnATerminal(unittest.TestCase):
+    """Where standard output is a terminal a page goes into a file, and columns have colours."""
+
+    def run_on_terminal(self, folder: str, *words: str) -> tuple[int, str]:
+        leader, follower = pty.openpty()
+        env = {**os.environ, "PYTHONPATH": str(runs.ROOT / "tools"), "PYTHONIOENCODING": "utf-8", "TERM": "dumb"}
+        env.pop("NO_COLOR", None)
+        out = b""
+        with subprocess.Popen([sys.executable, "-B", "-m", "xrf_tools", "draw", *words], cwd=folder, env=env,
+                              stdin=subprocess.DEVNULL, stdout=follower, stderr=follower) as child:
+            os.close(follower)
+            with contextlib.suppress(OSError):
+                while piece := os.read(leader, 65536):
+                    out += piece
+        os.close(leader)
+        return child.returncode, out.decode()
+
+    def test_a_page_goes_into_a_file_and_not_over_one_of_the_user(self) -> None:
+        with tempfile.TemporaryDirectory() as room:
+            path = str(runs.path("the_paused_active"))
+            for _ in range(2):
+                status, out = self.run_on_terminal(room, path)
+                self.assertEqual((status, out), (0, "xrf: the_paused_active.html was written\r\n"))
+            page_file = Path(room) / "the_paused_active.html"
+            page_file.write_text("<p>my own</p>")
+            status, out = self.run_on_terminal(room, path)
+            self.assertEqual((status, out.count("\n")), (1, 1))
+            self.assertEqual(page_file.read_text(), "<p>my own</p>")
+
+    def test_columns_have_colours(self) -> None:
+        status, out = self.run_on_terminal("/", "--text", str(runs.path("torn_file_write")))
+        self.assertEqual(status, 0)
+        self.assertIn("\x1b[31m", out)
 
 
 class Closing(HTMLParser):

@@ -5,6 +5,7 @@ import pty
 import re
 import shutil
 import subprocess
+import sys
 import tempfile
 import time
 import unittest
@@ -54,6 +55,7 @@ class Checkout(unittest.TestCase):
             shutil.copy(ROOT / name, self.home / name)
         shutil.copytree(ROOT / "tools", self.home / "tools", ignore=shutil.ignore_patterns("__pycache__"))
         (self.room / "bin").mkdir()
+        (self.room / "bin" / "python3").symlink_to(sys.executable)
         rt = self.room / "bin" / "rt"
         rt.write_text(RT)
         rt.chmod(0o755)
@@ -233,7 +235,7 @@ class Installing(Checkout):
 class Texts(unittest.TestCase):
     @unittest.skipUnless(shutil.which("shellcheck"), "shellcheck is missing")
     def test_shellcheck_has_nothing_to_say(self) -> None:
-        scripts = ["xrf", "tools/build", "tools/completions/xrf.bash", "tests/run"]
+        scripts = ["xrf", "tools/build", "tools/pictures", "tools/completions/xrf.bash", "tests/run"]
         done = subprocess.run(["shellcheck", "-s", "bash", *scripts], cwd=ROOT, capture_output=True, text=True)
         self.assertEqual(done.stdout, "")
 

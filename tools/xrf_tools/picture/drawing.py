@@ -64,7 +64,7 @@ def owner(span: Span, plan: Plan, first: int, last: int) -> str:
 
 def taking(span: Span, plan: Plan, first: int, last: int) -> str:
     x = plan.lines["CTL"]
-    text = f'<text class="small {span.lane}" x="{x - 2}" y="{first + 12}" text-anchor="end">{span.label}</text>'
+    text = f'<text class="small {span.lane}" x="{x + 42}" y="{first + 12}">{span.label}</text>'
     return bar(f"taking {span.lane}", x + 30, 9, first, last, f"{span.lane} takes over: {span.label}") + text
 
 

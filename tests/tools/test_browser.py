@@ -86,9 +86,16 @@ class Browser(unittest.TestCase):
             gathered.end = took(() => press("End"));
             gathered.step = took(() => press("ArrowLeft"));
             gathered.line = text("line");
+            const slider = document.getElementById("slider");
+            gathered.seen = [4000, 12, 8000].map((act) => {
+              slider.value = act; slider.dispatchEvent(new Event("input"));
+              const box = document.querySelector(".row.on").getBoundingClientRect();
+              return 30 < box.top && box.bottom < innerHeight;
+            });
         """)
         self.assertEqual(seen["wrong"], [])
         self.assertEqual(seen["acts"], "8192")
+        self.assertEqual(seen["seen"], [True, True, True])
         self.assertTrue(seen["line"].startswith("ACT 8187 "))
         for name in ("home", "end", "step"):
             self.assertLess(seen[name], 1000, name)

@@ -102,7 +102,7 @@ class Page(unittest.TestCase):
             with self.subTest(name):
                 scene = build(runs.document(name))
                 marked = set()
-                for part in drawing.parts(scene, plan(scene)):
+                for part, _ in drawing.parts(scene, plan(scene)):
                     for element in ElementTree.fromstring(part).iter():
                         marked |= {int(element.get("data-k", "0"))}
                 self.assertEqual(marked - {0}, {entry.number for entry in scene.document.entries})
@@ -130,7 +130,7 @@ class Page(unittest.TestCase):
 
     def parts(self, name: str) -> list[str]:
         scene = build(runs.document(name))
-        return list(drawing.parts(scene, plan(scene)))
+        return [part for part, _ in drawing.parts(scene, plan(scene))]
 
 
 class Svg(unittest.TestCase):

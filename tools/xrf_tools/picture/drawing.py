@@ -15,8 +15,8 @@ MOST_LETTERS = 39
 BESIDE = 13
 
 
-def parts(scene: Scene, plan: Plan, size: int = PART) -> Iterator[str]:
-    """The parts from top to bottom, of `size` rows each, each an SVG of its own."""
+def parts(scene: Scene, plan: Plan, size: int = PART) -> Iterator[tuple[str, int]]:
+    """The parts from top to bottom, of `size` rows each, each an SVG of its own, with its height."""
     count = len(scene.rows)
     for first in range(0, count, size):
         last = min(first + size, count)
@@ -25,8 +25,9 @@ def parts(scene: Scene, plan: Plan, size: int = PART) -> Iterator[str]:
         drawn = [lines(plan, top, bottom)]
         drawn += [span_of(span, plan) for span in scene.spans if crosses(span, plan, top, bottom)]
         drawn += [row_of(scene.rows[row], plan, row) for row in range(first, last)]
-        yield (f'<svg class="part" xmlns="http://www.w3.org/2000/svg" viewBox="0 {top} {plan.width} {bottom - top}" '
-               f'width="{plan.width}" height="{bottom - top}">{"".join(drawn)}</svg>')
+        height = bottom - top
+        box = f'viewBox="0 {top} {plan.width} {height}" width="{plan.width}" height="{height}"'
+        yield f'<svg class="part" xmlns="http://www.w3.org/2000/svg" {box}>{"".join(drawn)}</svg>', height
 
 
 def crosses(span: Span, plan: Plan, top: int, bottom: int) -> bool:

@@ -43,7 +43,7 @@ def svg(scene: Scene, title: str) -> str:
     """The picture by itself, as one SVG with its style inside."""
     where = plan(scene)
     height = drawing.HEAD + where.height
-    (body,) = drawing.parts(scene, where, len(scene.rows) or 1) if scene.rows else ("",)
+    body = "".join(part for part, _ in drawing.parts(scene, where, len(scene.rows) or 1))
     return (f'<svg xmlns="http://www.w3.org/2000/svg" width="{where.width}" height="{height}" '
             f'viewBox="0 0 {where.width} {height}"><title>{escape(title)}</title><style>{style()}</style>'
             f'<rect width="100%" height="100%" fill="var(--paper)"/>{drawing.heads(scene, where)}'
@@ -53,7 +53,7 @@ def svg(scene: Scene, title: str) -> str:
 def page(scene: Scene, title: str) -> str:
     where = plan(scene)
     picture = "\n".join(
-        f'<div class="hold" style="width:{where.width}px">{part}</div>' for part in drawing.parts(scene, where))
+        f'<div class="hold" style="height:{height}px">{part}</div>' for part, height in drawing.parts(scene, where))
     pieces = {
         "TITLE": escape(title), "STYLE": style() + (HERE / "page.css").read_text(), "SCRIPT": (HERE / "page.js").read_text(),
         "HEADS": drawing.heads(scene, where), "PICTURE": picture, "WIDTH": str(where.width),

@@ -1,4 +1,4 @@
--- A failing device in the opening write of a commit.
+-- An owner whose log write fails signs off as ended abnormally; that write opened the slot, so the next active finds the unit committed.
 use Rattle.std.specs.Prelude.{false, List, [], ◌∷◌, ◌++◌, replicate, codes, Some, None}
 use Rattle.xrf_base.specs.declared.site.Site.TheVariants as site
 use Rattle.xrf_base.specs.declared.site.Takeovr.TheVariants as takeovr
@@ -20,7 +20,8 @@ use Rattle.xrf_trace.specs.declared.entry.Entry.{Entry}
 use Rattle.xrf_trace.specs.declared.entry.Land.TheVariants as land
 use Rattle.xrf_trace.specs.declared.entry.Who.TheVariants as who
 use Rattle.xrf_trace.specs.Scenario.{Scen}
-use Rattle.xrf_examples.specs.Making.{Told, entry_of}
+use Rattle.xrf_examples.specs.Making.{Told, entry_of, owner_of, unit_of}
+use Rattle.xrf_examples.specs.Units.{committing, to_committing}
 
 abbrev pub scenario : Scen
 scenario = record {
@@ -34,76 +35,48 @@ scenario = record {
   clt_a = 0;
   clt_b = 0;
   records = (1, codes "OLD") ∷ [];
-  work_a = items.Begin (codes "U1") ∷ items.Put (codes "U1") 1 (codes "NEW") ∷ items.Put (codes "U1") 3 (codes "SECOND") ∷ items.Commit (codes "U1") ∷ [];
+  work_a =
+      items.Begin (codes "U1") ∷ items.Put (codes "U1") 1 (codes "NEW") ∷ items.Put (codes "U1") 3 (codes "SECOND") ∷ items.Commit (codes "U1") ∷ [];
   work_b = [];
 }
 
 abbrev pub choices : List Choice
 choices =
-    (choice.StartActive site.A ∷ [])
-    ++ replicate 24 (choice.Step site.A)
-    ++ (choice.Fail site.A (landing.Torn (193 ∷ [])) ∷ [])
-    ++ replicate 5 (choice.Step site.A)
-    ++ (choice.StartActive site.A ∷ [])
-    ++ replicate 11 (choice.Step site.A)
+    to_committing ++ choice.Fail site.A (landing.Torn (193 ∷ [])) ∷ replicate 5 (choice.Step site.A) ++ choice.StartActive site.A ∷
+    replicate 11 (choice.Step site.A)
 
 abbrev pub trace : List Entry
 trace =
-    entry_of 0 who.A 2 (act.Restarted) land.Full ∷
+    entry_of 0 who.A 2 act.Restarted land.Full ∷
     entry_of 0 who.A 2 (act.LogRead 0) land.Full ∷
     entry_of 0 who.A 2 (act.Decide (decided.Owner acting.Nothing)) land.Full ∷
-    entry_of 0 who.A 2 (act.Look2) land.Full ∷
-    entry_of 0 who.A 2 (act.Look1) land.Full ∷
+    entry_of 0 who.A 2 act.Look2 land.Full ∷
+    entry_of 0 who.A 2 act.Look1 land.Full ∷
     entry_of 0 who.A 2 (act.Signal2 (of_numbers 2 1 0)) land.Full ∷
     entry_of 0 who.A 2 (act.Signal1 (of_numbers 2 1 0)) land.Full ∷
-    entry_of 0 who.A 2 (act.Release) land.Full ∷
-    entry_of 0 who.A 2 (act.CtlWrite (of_parts 1 2 (Some (record { inc = 2; site = site.A; state = state.Running })) None None)) land.Full ∷
-    entry_of 0 who.A 0 (act.CtlRead) land.Full ∷
-    entry_of 0 who.A 0 (act.Reserve) land.Full ∷
-    entry_of 0 who.A 0 (act.StartActive) land.Full ∷
+    entry_of 0 who.A 2 act.Release land.Full ∷
+    entry_of 0 who.A 2 (act.CtlWrite (of_parts 1 2 (owner_of 2 site.A state.Running) None None)) land.Full ∷
+    entry_of 0 who.A 0 act.CtlRead land.Full ∷
+    entry_of 0 who.A 0 act.Reserve land.Full ∷
+    entry_of 0 who.A 0 act.StartActive land.Full ∷
     entry_of 0 who.A 1 (act.Ended end.SignedOff) land.Full ∷
-    entry_of 0 who.A 1 (act.Release) land.Full ∷
-    entry_of 0 who.A 1 (act.CtlWrite (of_parts 1 1 (Some (record { inc = 1; site = site.A; state = state.OffAbend })) None None)) land.Full ∷
-    entry_of 0 who.A 1 (act.CtlRead) land.Full ∷
-    entry_of 0 who.A 1 (act.Reserve) land.Full ∷
-    entry_of 0 who.A 1 (act.LogOpen 2 (rec.Commit (record { inc = 1; serial = 1 }))) (land.Fail (landing.Torn (193 ∷ []))) ∷
-    entry_of 0 who.A 1 (act.LogBody 2 (rec.Commit (record { inc = 1; serial = 1 }))) land.Full ∷
-    entry_of 0 who.A 1 (act.Item 4) land.Full ∷
-    entry_of 0 who.A 1 (act.FileWrite (record { inc = 1; serial = 1 }) 3 (codes "SECOND")) land.Full ∷
-    entry_of 0 who.A 1 (act.LogOpen 1 (rec.Put (record { inc = 1; serial = 1 }) 3 (replicate 32 0))) land.Full ∷
-    entry_of 0 who.A 1 (act.LogBody 1 (rec.Put (record { inc = 1; serial = 1 }) 3 (replicate 32 0))) land.Full ∷
-    entry_of 0 who.A 1 (act.FileRead 3) land.Full ∷
-    entry_of 0 who.A 1 (act.Item 3) land.Full ∷
-    entry_of 0 who.A 1 (act.FileWrite (record { inc = 1; serial = 1 }) 1 (codes "NEW")) land.Full ∷
-    entry_of 0 who.A 1 (act.LogOpen 0 (rec.Put (record { inc = 1; serial = 1 }) 1 ((1 ∷ 0 ∷ 0 ∷ 0 ∷ 0 ∷ 0 ∷ 0 ∷ 0 ∷ 79 ∷ 76 ∷ 68 ∷ []) ++ replicate 21 32))) land.Full ∷
-    entry_of 0 who.A 1 (act.LogBody 0 (rec.Put (record { inc = 1; serial = 1 }) 1 ((1 ∷ 0 ∷ 0 ∷ 0 ∷ 0 ∷ 0 ∷ 0 ∷ 0 ∷ 79 ∷ 76 ∷ 68 ∷ []) ++ replicate 21 32))) land.Full ∷
-    entry_of 0 who.A 1 (act.FileRead 1) land.Full ∷
-    entry_of 0 who.A 1 (act.Item 2) land.Full ∷
-    entry_of 0 who.A 1 (act.Item 1) land.Full ∷
-    entry_of 0 who.A 1 (act.Restarted) land.Full ∷
-    entry_of 0 who.A 1 (act.LogRead 0) land.Full ∷
-    entry_of 0 who.A 1 (act.Decide (decided.Owner acting.Nothing)) land.Full ∷
-    entry_of 0 who.A 1 (act.Look2) land.Full ∷
-    entry_of 0 who.A 1 (act.Look1) land.Full ∷
-    entry_of 0 who.A 1 (act.Signal2 (of_numbers 1 1 0)) land.Full ∷
-    entry_of 0 who.A 1 (act.Signal1 (of_numbers 1 1 0)) land.Full ∷
-    entry_of 0 who.A 1 (act.Release) land.Full ∷
-    entry_of 0 who.A 1 (act.CtlWrite (of_parts 1 1 (Some (record { inc = 1; site = site.A; state = state.Running })) None None)) land.Full ∷
-    entry_of 0 who.A 0 (act.CtlRead) land.Full ∷
-    entry_of 0 who.A 0 (act.Reserve) land.Full ∷
-    entry_of 0 who.A 0 (act.StartActive) land.Full ∷
-    []
+    entry_of 0 who.A 1 act.Release land.Full ∷
+    entry_of 0 who.A 1 (act.CtlWrite (of_parts 1 1 (owner_of 1 site.A state.OffAbend) None None)) land.Full ∷
+    entry_of 0 who.A 1 act.CtlRead land.Full ∷
+    entry_of 0 who.A 1 act.Reserve land.Full ∷
+    entry_of 0 who.A 1 (act.LogOpen 2 (rec.Commit (unit_of 1 1))) (land.Fail (landing.Torn (193 ∷ []))) ∷
+    committing
 
 abbrev pub told : Told
 told = record {
-  answers_a = Some answer.Done ∷ Some answer.Done ∷ Some answer.Done ∷ None ∷ [];
+  answers_a = replicate 3 (Some answer.Done) ++ None ∷ [];
   answers_b = [];
   tick = 0;
-  held = (of_parts 1 2 (Some (record { inc = 2; site = site.A; state = state.Running })) None None);
+  held = of_parts 1 2 (owner_of 2 site.A state.Running) None None;
   records = 3;
   done = 1;
   undone = 0;
-  file = (Some (Some (codes "NEW")) ∷ []) ++ (Some None ∷ []) ++ (Some (Some (codes "SECOND")) ∷ []) ++ (Some None ∷ []);
+  file = Some (Some (codes "NEW")) ∷ Some None ∷ Some (Some (codes "SECOND")) ∷ Some None ∷ [];
   table_a = [];
   table_b = [];
 }

@@ -1,5 +1,5 @@
--- A garbage body that is not opened.
-use Rattle.std.specs.Prelude.{false, List, [], ◌∷◌, replicate, Some, None, ◌++◌}
+-- A message body of garbage, in a slot that no stop opened, is never read; the next epoch writes over it.
+use Rattle.std.specs.Prelude.{false, List, [], ◌∷◌, ◌++◌, replicate, Some, None}
 use Rattle.xrf_base.specs.declared.site.Site.TheVariants as site
 use Rattle.xrf_base.specs.declared.site.Takeovr.TheVariants as takeovr
 use Rattle.xrf_ctl.specs.declared.parts.Level.TheVariants as level
@@ -22,7 +22,8 @@ use Rattle.xrf_trace.specs.declared.entry.Entry.{Entry}
 use Rattle.xrf_trace.specs.declared.entry.Land.TheVariants as land
 use Rattle.xrf_trace.specs.declared.entry.Who.TheVariants as who
 use Rattle.xrf_trace.specs.Scenario.{Scen}
-use Rattle.xrf_examples.specs.Making.{Told, entry_of}
+use Rattle.xrf_examples.specs.Making.{Told, entry_of, owner_of, alt_of, taking_of}
+use Rattle.xrf_examples.specs.Beginnings.{tracking, to_tracking}
 
 abbrev pub scenario : Scen
 scenario = record {
@@ -42,20 +43,9 @@ scenario = record {
 
 abbrev pub choices : List Choice
 choices =
-    (choice.StartActive site.A ∷ [])
-    ++ replicate 11 (choice.Step site.A)
-    ++ (choice.StartStandby site.B ∷ [])
-    ++ replicate 10 (choice.Step site.B)
-    ++ (choice.Tick ∷ [])
-    ++ replicate 6 (choice.Step site.A)
-    ++ (choice.Stop site.A (landing.Torn (255 ∷ 255 ∷ 255 ∷ 255 ∷ 255 ∷ 255 ∷ 255 ∷ 255 ∷ 255 ∷ 255 ∷ 255 ∷ 255 ∷ 255 ∷ 255 ∷ 255 ∷ 255 ∷ 255 ∷ 255 ∷ 255 ∷ 255 ∷ 255 ∷ 255 ∷ 255 ∷ 255 ∷ 255 ∷ 255 ∷ 255 ∷ 255 ∷ 255 ∷ 255 ∷ 255 ∷ 255 ∷ 255 ∷ 255 ∷ 255 ∷ 255 ∷ 255 ∷ 255 ∷ 255 ∷ 255 ∷ 255 ∷ 255 ∷ 255 ∷ 255 ∷ 255 ∷ 255 ∷ 255 ∷ 255 ∷ 255 ∷ 255 ∷ 255 ∷ 255 ∷ 255 ∷ 255 ∷ 255 ∷ 255 ∷ 255 ∷ 255 ∷ 255 ∷ 255 ∷ 255 ∷ 255 ∷ 255 ∷ [])) ∷ choice.Confirm 1 ∷ choice.Cebt site.B cebt.PerformTakeover ∷ [])
-    ++ replicate 9 (choice.Step site.B)
-    ++ (choice.Tick ∷ [])
-    ++ replicate 12 (choice.Step site.B)
-    ++ (choice.StartStandby site.A ∷ [])
-    ++ replicate 10 (choice.Step site.A)
-    ++ (choice.Tick ∷ [])
-    ++ replicate 8 (choice.Step site.B)
+    to_tracking ++ choice.Tick ∷ replicate 6 (choice.Step site.A) ++ choice.Stop site.A (landing.Torn (replicate 63 255)) ∷ choice.Confirm 1 ∷
+    choice.Cebt site.B cebt.PerformTakeover ∷ replicate 9 (choice.Step site.B) ++ choice.Tick ∷ replicate 12 (choice.Step site.B) ++
+    choice.StartStandby site.A ∷ replicate 10 (choice.Step site.A) ++ choice.Tick ∷ replicate 8 (choice.Step site.B)
 
 abbrev pub trace : List Entry
 trace =
@@ -63,85 +53,62 @@ trace =
     entry_of 3 who.B 2 (act.MsgBody 0 (message.Begin 3)) land.Full ∷
     entry_of 3 who.B 2 (act.MsgRead 0) land.Full ∷
     entry_of 3 who.B 2 (act.Decide (decided.Owner (acting.CatchUp 3))) land.Full ∷
-    entry_of 3 who.B 2 (act.Look2) land.Full ∷
-    entry_of 3 who.B 2 (act.Look1) land.Full ∷
+    entry_of 3 who.B 2 act.Look2 land.Full ∷
+    entry_of 3 who.B 2 act.Look1 land.Full ∷
     entry_of 3 who.B 2 (act.Signal2 (of_numbers 2 4 0)) land.Full ∷
     entry_of 3 who.B 2 (act.Signal1 (of_numbers 2 4 0)) land.Full ∷
-    entry_of 3 who.Env 0 (act.Tick) land.Full ∷
+    entry_of 3 who.Env 0 act.Tick land.Full ∷
     entry_of 2 who.A 3 (act.MsgRead 0) land.Full ∷
     entry_of 2 who.A 3 (act.Decide (decided.Alternate decision.Nothing)) land.Full ∷
-    entry_of 2 who.A 3 (act.Look2) land.Full ∷
-    entry_of 2 who.A 3 (act.Look1) land.Full ∷
+    entry_of 2 who.A 3 act.Look2 land.Full ∷
+    entry_of 2 who.A 3 act.Look1 land.Full ∷
     entry_of 2 who.A 3 (act.Signal2 (of_numbers 3 1 0)) land.Full ∷
     entry_of 2 who.A 3 (act.Signal1 (of_numbers 3 1 0)) land.Full ∷
-    entry_of 2 who.A 3 (act.Release) land.Full ∷
-    entry_of 2 who.A 3 (act.CtlWrite (of_parts 1 3 (Some (record { inc = 2; site = site.B; state = state.Running })) (Some (record { inc = 3; site = site.A })) None)) land.Full ∷
-    entry_of 2 who.A 0 (act.CtlRead) land.Full ∷
-    entry_of 2 who.A 0 (act.Reserve) land.Full ∷
-    entry_of 2 who.A 0 (act.StartStandby) land.Full ∷
-    entry_of 2 who.B 2 (act.Restarted) land.Full ∷
+    entry_of 2 who.A 3 act.Release land.Full ∷
+    entry_of 2 who.A 3 (act.CtlWrite (of_parts 1 3 (owner_of 2 site.B state.Running) (alt_of 3 site.A) None)) land.Full ∷
+    entry_of 2 who.A 0 act.CtlRead land.Full ∷
+    entry_of 2 who.A 0 act.Reserve land.Full ∷
+    entry_of 2 who.A 0 act.StartStandby land.Full ∷
+    entry_of 2 who.B 2 act.Restarted land.Full ∷
     entry_of 2 who.B 2 (act.LogRead 0) land.Full ∷
     entry_of 2 who.B 2 (act.MsgRead 0) land.Full ∷
-    entry_of 2 who.B 2 (act.Release) land.Full ∷
-    entry_of 2 who.B 2 (act.CtlWrite (of_parts 1 2 (Some (record { inc = 2; site = site.B; state = state.Running })) None None)) land.Full ∷
-    entry_of 2 who.B 2 (act.CtlRead) land.Full ∷
-    entry_of 2 who.B 2 (act.Reserve) land.Full ∷
+    entry_of 2 who.B 2 act.Release land.Full ∷
+    entry_of 2 who.B 2 (act.CtlWrite (of_parts 1 2 (owner_of 2 site.B state.Running) None None)) land.Full ∷
+    entry_of 2 who.B 2 act.CtlRead land.Full ∷
+    entry_of 2 who.B 2 act.Reserve land.Full ∷
     entry_of 2 who.B 2 (act.Decide (decided.Waiting waiting.Through)) land.Full ∷
-    entry_of 2 who.B 2 (act.Look2) land.Full ∷
-    entry_of 2 who.B 2 (act.Look1) land.Full ∷
+    entry_of 2 who.B 2 act.Look2 land.Full ∷
+    entry_of 2 who.B 2 act.Look1 land.Full ∷
     entry_of 2 who.B 2 (act.Signal2 (of_numbers 2 3 0)) land.Full ∷
     entry_of 2 who.B 2 (act.Signal1 (of_numbers 2 3 0)) land.Full ∷
-    entry_of 2 who.Env 0 (act.Tick) land.Full ∷
-    entry_of 1 who.B 2 (act.Release) land.Full ∷
-    entry_of 1 who.B 2 (act.CtlWrite (of_parts 1 2 (Some (record { inc = 1; site = site.A; state = state.Running })) (Some (record { inc = 2; site = site.B })) (Some (record { inc = 2; cause = cause.Command })))) land.Full ∷
-    entry_of 1 who.B 2 (act.CtlRead) land.Full ∷
-    entry_of 1 who.B 2 (act.Reserve) land.Full ∷
+    entry_of 2 who.Env 0 act.Tick land.Full ∷
+    entry_of 1 who.B 2 act.Release land.Full ∷
+    entry_of 1 who.B 2 (act.CtlWrite (of_parts 1 2 (owner_of 1 site.A state.Running) (alt_of 2 site.B) (taking_of 2 cause.Command))) land.Full ∷
+    entry_of 1 who.B 2 act.CtlRead land.Full ∷
+    entry_of 1 who.B 2 act.Reserve land.Full ∷
     entry_of 1 who.B 2 (act.Decide (decided.Alternate (decision.Start cause.Command))) land.Full ∷
-    entry_of 1 who.B 2 (act.Look2) land.Full ∷
-    entry_of 1 who.B 2 (act.Look1) land.Full ∷
+    entry_of 1 who.B 2 act.Look2 land.Full ∷
+    entry_of 1 who.B 2 act.Look1 land.Full ∷
     entry_of 1 who.B 2 (act.Signal2 (of_numbers 2 2 0)) land.Full ∷
     entry_of 1 who.B 2 (act.Signal1 (of_numbers 2 2 0)) land.Full ∷
     entry_of 1 who.B 2 (act.Cebt cebt.PerformTakeover reply.TakeoverAccepted) land.Full ∷
     entry_of 1 who.Env 0 (act.Confirm 1) land.Full ∷
-    entry_of 1 who.A 1 (act.MsgBody 0 (message.Begin 2)) (land.Stop (landing.Torn (255 ∷ 255 ∷ 255 ∷ 255 ∷ 255 ∷ 255 ∷ 255 ∷ 255 ∷ 255 ∷ 255 ∷ 255 ∷ 255 ∷ 255 ∷ 255 ∷ 255 ∷ 255 ∷ 255 ∷ 255 ∷ 255 ∷ 255 ∷ 255 ∷ 255 ∷ 255 ∷ 255 ∷ 255 ∷ 255 ∷ 255 ∷ 255 ∷ 255 ∷ 255 ∷ 255 ∷ 255 ∷ 255 ∷ 255 ∷ 255 ∷ 255 ∷ 255 ∷ 255 ∷ 255 ∷ 255 ∷ 255 ∷ 255 ∷ 255 ∷ 255 ∷ 255 ∷ 255 ∷ 255 ∷ 255 ∷ 255 ∷ 255 ∷ 255 ∷ 255 ∷ 255 ∷ 255 ∷ 255 ∷ 255 ∷ 255 ∷ 255 ∷ 255 ∷ 255 ∷ 255 ∷ 255 ∷ 255 ∷ []))) ∷
+    entry_of 1 who.A 1 (act.MsgBody 0 (message.Begin 2)) (land.Stop (landing.Torn (replicate 63 255))) ∷
     entry_of 1 who.A 1 (act.MsgRead 0) land.Full ∷
     entry_of 1 who.A 1 (act.Decide (decided.Owner (acting.CatchUp 2))) land.Full ∷
-    entry_of 1 who.A 1 (act.Look2) land.Full ∷
-    entry_of 1 who.A 1 (act.Look1) land.Full ∷
+    entry_of 1 who.A 1 act.Look2 land.Full ∷
+    entry_of 1 who.A 1 act.Look1 land.Full ∷
     entry_of 1 who.A 1 (act.Signal2 (of_numbers 1 2 0)) land.Full ∷
     entry_of 1 who.A 1 (act.Signal1 (of_numbers 1 2 0)) land.Full ∷
-    entry_of 1 who.Env 0 (act.Tick) land.Full ∷
-    entry_of 0 who.B 2 (act.MsgRead 0) land.Full ∷
-    entry_of 0 who.B 2 (act.Decide (decided.Alternate decision.Nothing)) land.Full ∷
-    entry_of 0 who.B 2 (act.Look2) land.Full ∷
-    entry_of 0 who.B 2 (act.Look1) land.Full ∷
-    entry_of 0 who.B 2 (act.Signal2 (of_numbers 2 1 0)) land.Full ∷
-    entry_of 0 who.B 2 (act.Signal1 (of_numbers 2 1 0)) land.Full ∷
-    entry_of 0 who.B 2 (act.Release) land.Full ∷
-    entry_of 0 who.B 2 (act.CtlWrite (of_parts 1 2 (Some (record { inc = 1; site = site.A; state = state.Running })) (Some (record { inc = 2; site = site.B })) None)) land.Full ∷
-    entry_of 0 who.B 0 (act.CtlRead) land.Full ∷
-    entry_of 0 who.B 0 (act.Reserve) land.Full ∷
-    entry_of 0 who.B 0 (act.StartStandby) land.Full ∷
-    entry_of 0 who.A 1 (act.Restarted) land.Full ∷
-    entry_of 0 who.A 1 (act.LogRead 0) land.Full ∷
-    entry_of 0 who.A 1 (act.Decide (decided.Owner acting.Nothing)) land.Full ∷
-    entry_of 0 who.A 1 (act.Look2) land.Full ∷
-    entry_of 0 who.A 1 (act.Look1) land.Full ∷
-    entry_of 0 who.A 1 (act.Signal2 (of_numbers 1 1 0)) land.Full ∷
-    entry_of 0 who.A 1 (act.Signal1 (of_numbers 1 1 0)) land.Full ∷
-    entry_of 0 who.A 1 (act.Release) land.Full ∷
-    entry_of 0 who.A 1 (act.CtlWrite (of_parts 1 1 (Some (record { inc = 1; site = site.A; state = state.Running })) None None)) land.Full ∷
-    entry_of 0 who.A 0 (act.CtlRead) land.Full ∷
-    entry_of 0 who.A 0 (act.Reserve) land.Full ∷
-    entry_of 0 who.A 0 (act.StartActive) land.Full ∷
-    []
+    entry_of 1 who.Env 0 act.Tick land.Full ∷
+    tracking
 
 abbrev pub told : Told
 told = record {
   answers_a = [];
   answers_b = [];
   tick = 3;
-  held = (of_parts 1 3 (Some (record { inc = 2; site = site.B; state = state.Running })) (Some (record { inc = 3; site = site.A })) None);
+  held = of_parts 1 3 (owner_of 2 site.B state.Running) (alt_of 3 site.A) None;
   records = 0;
   done = 0;
   undone = 0;

@@ -1,13 +1,10 @@
--- A second active is refused.
-use Rattle.std.specs.Prelude.{false, List, [], ◌∷◌, replicate, Some, None, ◌++◌}
+-- A START as active beside a Running owner ends as refused and writes nothing.
+use Rattle.std.specs.Prelude.{false, List, [], ◌∷◌, ◌++◌, replicate, Some, None}
 use Rattle.xrf_base.specs.declared.site.Site.TheVariants as site
 use Rattle.xrf_base.specs.declared.site.Takeovr.TheVariants as takeovr
 use Rattle.xrf_ctl.specs.declared.parts.Level.TheVariants as level
 use Rattle.xrf_ctl.specs.declared.parts.OwnerState.TheVariants as state
 use Rattle.xrf_ctl.specs.Control.{of_parts}
-use Rattle.xrf_ctl.specs.Signal.{of_numbers}
-use Rattle.xrf_cavm.specs.declared.decisions.Acting.TheVariants as acting
-use Rattle.xrf_cavm.specs.declared.decisions.Decided.TheVariants as decided
 use Rattle.xrf_history.specs.declared.want.EndWhy.TheVariants as end
 use Rattle.xrf_forms.specs.declared.choice.Choice.{Choice}
 use Rattle.xrf_forms.specs.declared.choice.Choice.TheVariants as choice
@@ -16,7 +13,8 @@ use Rattle.xrf_trace.specs.declared.entry.Entry.{Entry}
 use Rattle.xrf_trace.specs.declared.entry.Land.TheVariants as land
 use Rattle.xrf_trace.specs.declared.entry.Who.TheVariants as who
 use Rattle.xrf_trace.specs.Scenario.{Scen}
-use Rattle.xrf_examples.specs.Making.{Told, entry_of}
+use Rattle.xrf_examples.specs.Making.{Told, entry_of, owner_of}
+use Rattle.xrf_examples.specs.Beginnings.{restarted, to_restarted}
 
 abbrev pub scenario : Scen
 scenario = record {
@@ -36,38 +34,23 @@ scenario = record {
 
 abbrev pub choices : List Choice
 choices =
-    (choice.StartActive site.A ∷ [])
-    ++ replicate 11 (choice.Step site.A)
-    ++ (choice.StartActive site.B ∷ [])
-    ++ replicate 4 (choice.Step site.B)
+    to_restarted ++ choice.StartActive site.B ∷ replicate 4 (choice.Step site.B)
 
 abbrev pub trace : List Entry
 trace =
     entry_of 0 who.B 0 (act.Ended (end.Refused 1)) land.Full ∷
-    entry_of 0 who.B 0 (act.Release) land.Full ∷
-    entry_of 0 who.B 0 (act.CtlRead) land.Full ∷
-    entry_of 0 who.B 0 (act.Reserve) land.Full ∷
-    entry_of 0 who.B 0 (act.StartActive) land.Full ∷
-    entry_of 0 who.A 1 (act.Restarted) land.Full ∷
-    entry_of 0 who.A 1 (act.LogRead 0) land.Full ∷
-    entry_of 0 who.A 1 (act.Decide (decided.Owner acting.Nothing)) land.Full ∷
-    entry_of 0 who.A 1 (act.Look2) land.Full ∷
-    entry_of 0 who.A 1 (act.Look1) land.Full ∷
-    entry_of 0 who.A 1 (act.Signal2 (of_numbers 1 1 0)) land.Full ∷
-    entry_of 0 who.A 1 (act.Signal1 (of_numbers 1 1 0)) land.Full ∷
-    entry_of 0 who.A 1 (act.Release) land.Full ∷
-    entry_of 0 who.A 1 (act.CtlWrite (of_parts 1 1 (Some (record { inc = 1; site = site.A; state = state.Running })) None None)) land.Full ∷
-    entry_of 0 who.A 0 (act.CtlRead) land.Full ∷
-    entry_of 0 who.A 0 (act.Reserve) land.Full ∷
-    entry_of 0 who.A 0 (act.StartActive) land.Full ∷
-    []
+    entry_of 0 who.B 0 act.Release land.Full ∷
+    entry_of 0 who.B 0 act.CtlRead land.Full ∷
+    entry_of 0 who.B 0 act.Reserve land.Full ∷
+    entry_of 0 who.B 0 act.StartActive land.Full ∷
+    restarted
 
 abbrev pub told : Told
 told = record {
   answers_a = [];
   answers_b = [];
   tick = 0;
-  held = (of_parts 1 1 (Some (record { inc = 1; site = site.A; state = state.Running })) None None);
+  held = of_parts 1 1 (owner_of 1 site.A state.Running) None None;
   records = 0;
   done = 0;
   undone = 0;

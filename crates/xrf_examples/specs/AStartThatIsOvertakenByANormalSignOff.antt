@@ -1,5 +1,5 @@
--- A start that is overtaken by a normal sign off.
-use Rattle.std.specs.Prelude.{false, List, [], ◌∷◌, replicate, Some, None, ◌++◌}
+-- An alternate that decided to start finds that the owner signed off normally, and abandons its start.
+use Rattle.std.specs.Prelude.{false, List, [], ◌∷◌, ◌++◌, replicate, Some, None}
 use Rattle.xrf_base.specs.declared.site.Site.TheVariants as site
 use Rattle.xrf_base.specs.declared.site.Takeovr.TheVariants as takeovr
 use Rattle.xrf_base.specs.declared.items.Item.TheVariants as items
@@ -21,7 +21,8 @@ use Rattle.xrf_trace.specs.declared.entry.Entry.{Entry}
 use Rattle.xrf_trace.specs.declared.entry.Land.TheVariants as land
 use Rattle.xrf_trace.specs.declared.entry.Who.TheVariants as who
 use Rattle.xrf_trace.specs.Scenario.{Scen}
-use Rattle.xrf_examples.specs.Making.{Told, entry_of}
+use Rattle.xrf_examples.specs.Making.{Told, entry_of, owner_of, alt_of}
+use Rattle.xrf_examples.specs.Takeovers.{unheard, to_unheard}
 
 abbrev pub scenario : Scen
 scenario = record {
@@ -41,35 +42,21 @@ scenario = record {
 
 abbrev pub choices : List Choice
 choices =
-    (choice.StartActive site.A ∷ [])
-    ++ replicate 11 (choice.Step site.A)
-    ++ (choice.StartStandby site.B ∷ [])
-    ++ replicate 10 (choice.Step site.B)
-    ++ (choice.Tick ∷ [])
-    ++ replicate 6 (choice.Step site.B)
-    ++ (choice.Tick ∷ [])
-    ++ replicate 6 (choice.Step site.B)
-    ++ (choice.Tick ∷ [])
-    ++ replicate 6 (choice.Step site.B)
-    ++ (choice.Tick ∷ [])
-    ++ replicate 6 (choice.Step site.B)
-    ++ (choice.Tick ∷ [])
-    ++ replicate 5 (choice.Step site.B)
-    ++ replicate 17 (choice.Step site.A)
-    ++ replicate 5 (choice.Step site.B)
+    to_unheard ++ replicate 6 (choice.Step site.B) ++ choice.Tick ∷ replicate 5 (choice.Step site.B) ++ replicate 17 (choice.Step site.A) ++
+    replicate 5 (choice.Step site.B)
 
 abbrev pub trace : List Entry
 trace =
     entry_of 5 who.B 2 (act.Ended end.Abandoned) land.Full ∷
-    entry_of 5 who.B 2 (act.Release) land.Full ∷
-    entry_of 5 who.B 2 (act.CtlWrite (of_parts 1 2 (Some (record { inc = 1; site = site.A; state = state.OffNormal })) None None)) land.Full ∷
-    entry_of 5 who.B 2 (act.CtlRead) land.Full ∷
-    entry_of 5 who.B 2 (act.Reserve) land.Full ∷
+    entry_of 5 who.B 2 act.Release land.Full ∷
+    entry_of 5 who.B 2 (act.CtlWrite (of_parts 1 2 (owner_of 1 site.A state.OffNormal) None None)) land.Full ∷
+    entry_of 5 who.B 2 act.CtlRead land.Full ∷
+    entry_of 5 who.B 2 act.Reserve land.Full ∷
     entry_of 5 who.A 1 (act.Ended end.SignedOff) land.Full ∷
-    entry_of 5 who.A 1 (act.Release) land.Full ∷
-    entry_of 5 who.A 1 (act.CtlWrite (of_parts 1 2 (Some (record { inc = 1; site = site.A; state = state.OffNormal })) (Some (record { inc = 2; site = site.B })) None)) land.Full ∷
-    entry_of 5 who.A 1 (act.CtlRead) land.Full ∷
-    entry_of 5 who.A 1 (act.Reserve) land.Full ∷
+    entry_of 5 who.A 1 act.Release land.Full ∷
+    entry_of 5 who.A 1 (act.CtlWrite (of_parts 1 2 (owner_of 1 site.A state.OffNormal) (alt_of 2 site.B) None)) land.Full ∷
+    entry_of 5 who.A 1 act.CtlRead land.Full ∷
+    entry_of 5 who.A 1 act.Reserve land.Full ∷
     entry_of 5 who.A 1 (act.Item 1) land.Full ∷
     entry_of 5 who.A 1 (act.MsgOpen 1 (message.End 2 1)) land.Full ∷
     entry_of 5 who.A 1 (act.MsgBody 1 (message.End 2 1)) land.Full ∷
@@ -78,75 +65,30 @@ trace =
     entry_of 5 who.A 1 (act.MsgBody 0 (message.Begin 2)) land.Full ∷
     entry_of 5 who.A 1 (act.MsgRead 0) land.Full ∷
     entry_of 5 who.A 1 (act.Decide (decided.Owner (acting.CatchUp 2))) land.Full ∷
-    entry_of 5 who.A 1 (act.Look2) land.Full ∷
-    entry_of 5 who.A 1 (act.Look1) land.Full ∷
+    entry_of 5 who.A 1 act.Look2 land.Full ∷
+    entry_of 5 who.A 1 act.Look1 land.Full ∷
     entry_of 5 who.A 1 (act.Signal2 (of_numbers 1 2 0)) land.Full ∷
     entry_of 5 who.A 1 (act.Signal1 (of_numbers 1 2 0)) land.Full ∷
     entry_of 5 who.B 2 (act.Decide (decided.Alternate (decision.Start cause.Lost))) land.Full ∷
-    entry_of 5 who.B 2 (act.Look2) land.Full ∷
-    entry_of 5 who.B 2 (act.Look1) land.Full ∷
+    entry_of 5 who.B 2 act.Look2 land.Full ∷
+    entry_of 5 who.B 2 act.Look1 land.Full ∷
     entry_of 5 who.B 2 (act.Signal2 (of_numbers 2 6 0)) land.Full ∷
     entry_of 5 who.B 2 (act.Signal1 (of_numbers 2 6 0)) land.Full ∷
-    entry_of 5 who.Env 0 (act.Tick) land.Full ∷
+    entry_of 5 who.Env 0 act.Tick land.Full ∷
     entry_of 4 who.B 2 (act.MsgRead 0) land.Full ∷
     entry_of 4 who.B 2 (act.Decide (decided.Alternate decision.Nothing)) land.Full ∷
-    entry_of 4 who.B 2 (act.Look2) land.Full ∷
-    entry_of 4 who.B 2 (act.Look1) land.Full ∷
+    entry_of 4 who.B 2 act.Look2 land.Full ∷
+    entry_of 4 who.B 2 act.Look1 land.Full ∷
     entry_of 4 who.B 2 (act.Signal2 (of_numbers 2 5 0)) land.Full ∷
     entry_of 4 who.B 2 (act.Signal1 (of_numbers 2 5 0)) land.Full ∷
-    entry_of 4 who.Env 0 (act.Tick) land.Full ∷
-    entry_of 3 who.B 2 (act.MsgRead 0) land.Full ∷
-    entry_of 3 who.B 2 (act.Decide (decided.Alternate decision.Nothing)) land.Full ∷
-    entry_of 3 who.B 2 (act.Look2) land.Full ∷
-    entry_of 3 who.B 2 (act.Look1) land.Full ∷
-    entry_of 3 who.B 2 (act.Signal2 (of_numbers 2 4 0)) land.Full ∷
-    entry_of 3 who.B 2 (act.Signal1 (of_numbers 2 4 0)) land.Full ∷
-    entry_of 3 who.Env 0 (act.Tick) land.Full ∷
-    entry_of 2 who.B 2 (act.MsgRead 0) land.Full ∷
-    entry_of 2 who.B 2 (act.Decide (decided.Alternate decision.Nothing)) land.Full ∷
-    entry_of 2 who.B 2 (act.Look2) land.Full ∷
-    entry_of 2 who.B 2 (act.Look1) land.Full ∷
-    entry_of 2 who.B 2 (act.Signal2 (of_numbers 2 3 0)) land.Full ∷
-    entry_of 2 who.B 2 (act.Signal1 (of_numbers 2 3 0)) land.Full ∷
-    entry_of 2 who.Env 0 (act.Tick) land.Full ∷
-    entry_of 1 who.B 2 (act.MsgRead 0) land.Full ∷
-    entry_of 1 who.B 2 (act.Decide (decided.Alternate decision.Nothing)) land.Full ∷
-    entry_of 1 who.B 2 (act.Look2) land.Full ∷
-    entry_of 1 who.B 2 (act.Look1) land.Full ∷
-    entry_of 1 who.B 2 (act.Signal2 (of_numbers 2 2 0)) land.Full ∷
-    entry_of 1 who.B 2 (act.Signal1 (of_numbers 2 2 0)) land.Full ∷
-    entry_of 1 who.Env 0 (act.Tick) land.Full ∷
-    entry_of 0 who.B 2 (act.MsgRead 0) land.Full ∷
-    entry_of 0 who.B 2 (act.Decide (decided.Alternate decision.Nothing)) land.Full ∷
-    entry_of 0 who.B 2 (act.Look2) land.Full ∷
-    entry_of 0 who.B 2 (act.Look1) land.Full ∷
-    entry_of 0 who.B 2 (act.Signal2 (of_numbers 2 1 0)) land.Full ∷
-    entry_of 0 who.B 2 (act.Signal1 (of_numbers 2 1 0)) land.Full ∷
-    entry_of 0 who.B 2 (act.Release) land.Full ∷
-    entry_of 0 who.B 2 (act.CtlWrite (of_parts 1 2 (Some (record { inc = 1; site = site.A; state = state.Running })) (Some (record { inc = 2; site = site.B })) None)) land.Full ∷
-    entry_of 0 who.B 0 (act.CtlRead) land.Full ∷
-    entry_of 0 who.B 0 (act.Reserve) land.Full ∷
-    entry_of 0 who.B 0 (act.StartStandby) land.Full ∷
-    entry_of 0 who.A 1 (act.Restarted) land.Full ∷
-    entry_of 0 who.A 1 (act.LogRead 0) land.Full ∷
-    entry_of 0 who.A 1 (act.Decide (decided.Owner acting.Nothing)) land.Full ∷
-    entry_of 0 who.A 1 (act.Look2) land.Full ∷
-    entry_of 0 who.A 1 (act.Look1) land.Full ∷
-    entry_of 0 who.A 1 (act.Signal2 (of_numbers 1 1 0)) land.Full ∷
-    entry_of 0 who.A 1 (act.Signal1 (of_numbers 1 1 0)) land.Full ∷
-    entry_of 0 who.A 1 (act.Release) land.Full ∷
-    entry_of 0 who.A 1 (act.CtlWrite (of_parts 1 1 (Some (record { inc = 1; site = site.A; state = state.Running })) None None)) land.Full ∷
-    entry_of 0 who.A 0 (act.CtlRead) land.Full ∷
-    entry_of 0 who.A 0 (act.Reserve) land.Full ∷
-    entry_of 0 who.A 0 (act.StartActive) land.Full ∷
-    []
+    unheard
 
 abbrev pub told : Told
 told = record {
   answers_a = Some answer.Done ∷ [];
   answers_b = [];
   tick = 5;
-  held = (of_parts 1 2 (Some (record { inc = 1; site = site.A; state = state.OffNormal })) None None);
+  held = of_parts 1 2 (owner_of 1 site.A state.OffNormal) None None;
   records = 0;
   done = 0;
   undone = 0;

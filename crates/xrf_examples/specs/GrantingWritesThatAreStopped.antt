@@ -1,4 +1,4 @@
--- Granting writes that are stopped.
+-- A granting write that a stop loses leaves its number to the next sign-on; one that a stop lands keeps it, and it is confirmed.
 use Rattle.std.specs.Prelude.{false, List, [], ◌∷◌, replicate, Some, None}
 use Rattle.xrf_base.specs.declared.site.Site.TheVariants as site
 use Rattle.xrf_base.specs.declared.site.Takeovr.TheVariants as takeovr
@@ -13,7 +13,7 @@ use Rattle.xrf_trace.specs.declared.entry.Entry.{Entry}
 use Rattle.xrf_trace.specs.declared.entry.Land.TheVariants as land
 use Rattle.xrf_trace.specs.declared.entry.Who.TheVariants as who
 use Rattle.xrf_trace.specs.Scenario.{Scen}
-use Rattle.xrf_examples.specs.Making.{Told, entry_of}
+use Rattle.xrf_examples.specs.Making.{Told, entry_of, owner_of}
 
 abbrev pub scenario : Scen
 scenario = record {
@@ -33,19 +33,20 @@ scenario = record {
 
 abbrev pub choices : List Choice
 choices =
-    (choice.StartActive site.A ∷ choice.Step site.A ∷ choice.Step site.A ∷ choice.Stop site.A landing.Nothing ∷ choice.StartActive site.A ∷ choice.Step site.A ∷ choice.Step site.A ∷ choice.Stop site.A landing.All ∷ choice.Confirm 1 ∷ [])
+    choice.StartActive site.A ∷ choice.Step site.A ∷ choice.Step site.A ∷ choice.Stop site.A landing.Nothing ∷ choice.StartActive site.A ∷
+    choice.Step site.A ∷ choice.Step site.A ∷ choice.Stop site.A landing.All ∷ choice.Confirm 1 ∷ []
 
 abbrev pub trace : List Entry
 trace =
     entry_of 0 who.Env 0 (act.Confirm 1) land.Full ∷
-    entry_of 0 who.A 1 (act.CtlWrite (of_parts 1 1 (Some (record { inc = 1; site = site.A; state = state.Running })) None None)) (land.Stop landing.All) ∷
-    entry_of 0 who.A 0 (act.CtlRead) land.Full ∷
-    entry_of 0 who.A 0 (act.Reserve) land.Full ∷
-    entry_of 0 who.A 0 (act.StartActive) land.Full ∷
-    entry_of 0 who.A 1 (act.CtlWrite (of_parts 1 1 (Some (record { inc = 1; site = site.A; state = state.Running })) None None)) (land.Stop landing.Nothing) ∷
-    entry_of 0 who.A 0 (act.CtlRead) land.Full ∷
-    entry_of 0 who.A 0 (act.Reserve) land.Full ∷
-    entry_of 0 who.A 0 (act.StartActive) land.Full ∷
+    entry_of 0 who.A 1 (act.CtlWrite (of_parts 1 1 (owner_of 1 site.A state.Running) None None)) (land.Stop landing.All) ∷
+    entry_of 0 who.A 0 act.CtlRead land.Full ∷
+    entry_of 0 who.A 0 act.Reserve land.Full ∷
+    entry_of 0 who.A 0 act.StartActive land.Full ∷
+    entry_of 0 who.A 1 (act.CtlWrite (of_parts 1 1 (owner_of 1 site.A state.Running) None None)) (land.Stop landing.Nothing) ∷
+    entry_of 0 who.A 0 act.CtlRead land.Full ∷
+    entry_of 0 who.A 0 act.Reserve land.Full ∷
+    entry_of 0 who.A 0 act.StartActive land.Full ∷
     []
 
 abbrev pub told : Told
@@ -53,7 +54,7 @@ told = record {
   answers_a = [];
   answers_b = [];
   tick = 0;
-  held = (of_parts 1 1 (Some (record { inc = 1; site = site.A; state = state.Running })) None None);
+  held = of_parts 1 1 (owner_of 1 site.A state.Running) None None;
   records = 0;
   done = 0;
   undone = 0;

@@ -1,5 +1,5 @@
--- Item answers of units.
-use Rattle.std.specs.Prelude.{false, List, [], ◌∷◌, replicate, codes, Some, None, ◌++◌}
+-- Two units meet at a record: the second is locked out until the first rolls back, and then finds the record empty.
+use Rattle.std.specs.Prelude.{false, List, [], ◌∷◌, ◌++◌, replicate, codes, Some, None}
 use Rattle.xrf_base.specs.declared.site.Site.TheVariants as site
 use Rattle.xrf_base.specs.declared.site.Takeovr.TheVariants as takeovr
 use Rattle.xrf_base.specs.declared.items.Item.TheVariants as items
@@ -7,18 +7,11 @@ use Rattle.xrf_base.specs.declared.items.ItemAnswer.TheVariants as answer
 use Rattle.xrf_ctl.specs.declared.parts.Level.TheVariants as level
 use Rattle.xrf_ctl.specs.declared.parts.OwnerState.TheVariants as state
 use Rattle.xrf_ctl.specs.Control.{of_parts}
-use Rattle.xrf_ctl.specs.Signal.{of_numbers}
-use Rattle.xrf_cavm.specs.declared.decisions.Acting.TheVariants as acting
-use Rattle.xrf_cavm.specs.declared.decisions.Decided.TheVariants as decided
-use Rattle.xrf_logrec.specs.declared.records.LogRec.TheVariants as rec
 use Rattle.xrf_forms.specs.declared.choice.Choice.{Choice}
-use Rattle.xrf_forms.specs.declared.choice.Choice.TheVariants as choice
-use Rattle.xrf_trace.specs.declared.entry.Act.TheVariants as act
 use Rattle.xrf_trace.specs.declared.entry.Entry.{Entry}
-use Rattle.xrf_trace.specs.declared.entry.Land.TheVariants as land
-use Rattle.xrf_trace.specs.declared.entry.Who.TheVariants as who
 use Rattle.xrf_trace.specs.Scenario.{Scen}
-use Rattle.xrf_examples.specs.Making.{Told, entry_of}
+use Rattle.xrf_examples.specs.Making.{Told, owner_of}
+use Rattle.xrf_examples.specs.Units.{answered, to_answered}
 
 abbrev pub scenario : Scen
 scenario = record {
@@ -32,56 +25,29 @@ scenario = record {
   clt_a = 0;
   clt_b = 0;
   records = [];
-  work_a = items.Begin (codes "U1") ∷ items.Begin (codes "U2") ∷ items.Put (codes "U1") 1 (codes "X") ∷ items.Put (codes "U2") 1 (codes "Y") ∷ items.Get (codes "U2") 1 ∷ items.Put (codes "U2") 9 (codes "Q") ∷ items.Roll (codes "U1") ∷ items.Get (codes "U2") 1 ∷ items.Begin (codes "U2") ∷ items.Commit (codes "U2") ∷ items.Commit (codes "U1") ∷ [];
+  work_a =
+      items.Begin (codes "U1") ∷ items.Begin (codes "U2") ∷ items.Put (codes "U1") 1 (codes "X") ∷ items.Put (codes "U2") 1 (codes "Y") ∷
+      items.Get (codes "U2") 1 ∷ items.Put (codes "U2") 9 (codes "Q") ∷ items.Roll (codes "U1") ∷ items.Get (codes "U2") 1 ∷
+      items.Begin (codes "U2") ∷ items.Commit (codes "U2") ∷ items.Commit (codes "U1") ∷ [];
   work_b = [];
 }
 
 abbrev pub choices : List Choice
 choices =
-    (choice.StartActive site.A ∷ [])
-    ++ replicate 30 (choice.Step site.A)
+    to_answered
 
 abbrev pub trace : List Entry
 trace =
-    entry_of 0 who.A 1 (act.Item 11) land.Full ∷
-    entry_of 0 who.A 1 (act.Item 10) land.Full ∷
-    entry_of 0 who.A 1 (act.Item 9) land.Full ∷
-    entry_of 0 who.A 1 (act.FileRead 1) land.Full ∷
-    entry_of 0 who.A 1 (act.Item 8) land.Full ∷
-    entry_of 0 who.A 1 (act.LogOpen 1 (rec.Backout (record { inc = 1; serial = 1 }))) land.Full ∷
-    entry_of 0 who.A 1 (act.LogBody 1 (rec.Backout (record { inc = 1; serial = 1 }))) land.Full ∷
-    entry_of 0 who.A 1 (act.Undo 1 (replicate 32 0)) land.Full ∷
-    entry_of 0 who.A 1 (act.Item 7) land.Full ∷
-    entry_of 0 who.A 1 (act.Item 6) land.Full ∷
-    entry_of 0 who.A 1 (act.Item 5) land.Full ∷
-    entry_of 0 who.A 1 (act.Item 4) land.Full ∷
-    entry_of 0 who.A 1 (act.FileWrite (record { inc = 1; serial = 1 }) 1 (codes "X")) land.Full ∷
-    entry_of 0 who.A 1 (act.LogOpen 0 (rec.Put (record { inc = 1; serial = 1 }) 1 (replicate 32 0))) land.Full ∷
-    entry_of 0 who.A 1 (act.LogBody 0 (rec.Put (record { inc = 1; serial = 1 }) 1 (replicate 32 0))) land.Full ∷
-    entry_of 0 who.A 1 (act.FileRead 1) land.Full ∷
-    entry_of 0 who.A 1 (act.Item 3) land.Full ∷
-    entry_of 0 who.A 1 (act.Item 2) land.Full ∷
-    entry_of 0 who.A 1 (act.Item 1) land.Full ∷
-    entry_of 0 who.A 1 (act.Restarted) land.Full ∷
-    entry_of 0 who.A 1 (act.LogRead 0) land.Full ∷
-    entry_of 0 who.A 1 (act.Decide (decided.Owner acting.Nothing)) land.Full ∷
-    entry_of 0 who.A 1 (act.Look2) land.Full ∷
-    entry_of 0 who.A 1 (act.Look1) land.Full ∷
-    entry_of 0 who.A 1 (act.Signal2 (of_numbers 1 1 0)) land.Full ∷
-    entry_of 0 who.A 1 (act.Signal1 (of_numbers 1 1 0)) land.Full ∷
-    entry_of 0 who.A 1 (act.Release) land.Full ∷
-    entry_of 0 who.A 1 (act.CtlWrite (of_parts 1 1 (Some (record { inc = 1; site = site.A; state = state.Running })) None None)) land.Full ∷
-    entry_of 0 who.A 0 (act.CtlRead) land.Full ∷
-    entry_of 0 who.A 0 (act.Reserve) land.Full ∷
-    entry_of 0 who.A 0 (act.StartActive) land.Full ∷
-    []
+    answered
 
 abbrev pub told : Told
 told = record {
-  answers_a = Some answer.Done ∷ Some answer.Done ∷ Some answer.Done ∷ Some answer.Locked ∷ Some answer.Locked ∷ Some answer.BadRrn ∷ Some answer.Done ∷ Some answer.Empty ∷ Some answer.NameUsed ∷ Some answer.Done ∷ Some answer.NotOpen ∷ [];
+  answers_a =
+      replicate 3 (Some answer.Done) ++ Some answer.Locked ∷ Some answer.Locked ∷ Some answer.BadRrn ∷ Some answer.Done ∷ Some answer.Empty ∷
+      Some answer.NameUsed ∷ Some answer.Done ∷ Some answer.NotOpen ∷ [];
   answers_b = [];
   tick = 0;
-  held = (of_parts 1 1 (Some (record { inc = 1; site = site.A; state = state.Running })) None None);
+  held = of_parts 1 1 (owner_of 1 site.A state.Running) None None;
   records = 2;
   done = 0;
   undone = 0;

@@ -1,5 +1,10 @@
 pub mod Making
 pub mod Refused
+pub mod Beginnings
+pub mod Units
+pub mod Takeovers
+pub mod LogGoesRound
+pub mod KeypointIsDue
 pub mod OrdinaryUnitOfWork
 pub mod GrantingWritesThatAreStopped
 pub mod ASecondActiveIsRefused

@@ -1,11 +1,17 @@
 -- How the entries of a worked run are written, and what its report tells beside them.
-use Rattle.std.specs.Prelude.{ℕ, List, [], length, map, Option}
+use Rattle.std.specs.Prelude.{ℕ, List, [], length, map, Option, Some}
 use Rattle.std.specs.Option.{option_map_or}
 use Rattle.std.specs.List.{range_with_len}
 use Rattle.xrf_base.specs.declared.items.ItemAnswer.{ItemAnswer}
+use Rattle.xrf_base.specs.declared.items.UnitId.{UnitId}
 use Rattle.xrf_base.specs.declared.site.Site.{Site}
 use Rattle.xrf_base.specs.declared.site.Site.TheVariants.{A, B}
 use Rattle.xrf_base.specs.Values.{slot_reading}
+use Rattle.xrf_ctl.specs.declared.parts.Owner.{Owner}
+use Rattle.xrf_ctl.specs.declared.parts.OwnerState.{OwnerState}
+use Rattle.xrf_ctl.specs.declared.parts.Alt.{Alt}
+use Rattle.xrf_ctl.specs.declared.parts.Taking.{Taking}
+use Rattle.xrf_ctl.specs.declared.parts.Cause.{Cause}
 use Rattle.xrf_ctl.specs.Control.{ControlRecord}
 use Rattle.xrf_log.specs.Flight.{flight}
 use Rattle.xrf_terms.specs.declared.rows.Row.{Row}
@@ -23,6 +29,19 @@ use Rattle.xrf_trace.specs.Items.{answer}
 
 abbrev pub entry_of : (tick : ℕ) → Who → (inc : ℕ) → Act → Land → Entry
 entry_of tick who inc act land = record { tick = tick; who = who; inc = inc; act = act; land = land }
+
+-- the parts of a control record, and a unit
+abbrev pub owner_of : (inc : ℕ) → Site → OwnerState → Option Owner
+owner_of inc site state = Some (record { inc = inc; site = site; state = state })
+
+abbrev pub alt_of : (inc : ℕ) → Site → Option Alt
+alt_of inc site = Some (record { inc = inc; site = site })
+
+abbrev pub taking_of : (inc : ℕ) → Cause → Option Taking
+taking_of inc cause = Some (record { inc = inc; cause = cause })
+
+abbrev pub unit_of : (inc : ℕ) → (serial : ℕ) → UnitId
+unit_of inc serial = record { inc = inc; serial = serial }
 
 -- the answers of the items of each site (none while an item is not answered), the tick, the control record, the
 -- records of the log with the units committed and in flight, what each record of the file holds (nothing where its

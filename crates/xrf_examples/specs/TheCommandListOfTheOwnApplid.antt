@@ -1,17 +1,11 @@
--- The command list of the own applid.
-use Rattle.std.specs.Prelude.{false, List, [], ◌∷◌, replicate, Some, None, ◌++◌}
+-- An alternate that has started its takeover goes through the lines of the command list that name its own applid.
+use Rattle.std.specs.Prelude.{false, List, [], ◌∷◌, ◌++◌, replicate, Some, None}
 use Rattle.xrf_base.specs.declared.site.Site.TheVariants as site
 use Rattle.xrf_base.specs.declared.site.Takeovr.TheVariants as takeovr
 use Rattle.xrf_ctl.specs.declared.parts.Level.TheVariants as level
 use Rattle.xrf_ctl.specs.declared.parts.OwnerState.TheVariants as state
 use Rattle.xrf_ctl.specs.declared.parts.Cause.TheVariants as cause
 use Rattle.xrf_ctl.specs.Control.{of_parts}
-use Rattle.xrf_ctl.specs.Signal.{of_numbers}
-use Rattle.xrf_cavm.specs.declared.decisions.Decision.TheVariants as decision
-use Rattle.xrf_cavm.specs.declared.decisions.Acting.TheVariants as acting
-use Rattle.xrf_cavm.specs.declared.decisions.Decided.TheVariants as decided
-use Rattle.xrf_cebt.specs.declared.commands.Cebt.TheVariants as cebt
-use Rattle.xrf_cebt.specs.declared.replies.CebtReply.TheVariants as reply
 use Rattle.xrf_forms.specs.declared.choice.Choice.{Choice}
 use Rattle.xrf_forms.specs.declared.choice.Choice.TheVariants as choice
 use Rattle.xrf_trace.specs.declared.entry.Act.TheVariants as act
@@ -19,7 +13,8 @@ use Rattle.xrf_trace.specs.declared.entry.Entry.{Entry}
 use Rattle.xrf_trace.specs.declared.entry.Land.TheVariants as land
 use Rattle.xrf_trace.specs.declared.entry.Who.TheVariants as who
 use Rattle.xrf_trace.specs.Scenario.{Scen}
-use Rattle.xrf_examples.specs.Making.{Told, entry_of}
+use Rattle.xrf_examples.specs.Making.{Told, entry_of, owner_of, alt_of, taking_of}
+use Rattle.xrf_examples.specs.Beginnings.{commanded, to_commanded}
 
 abbrev pub scenario : Scen
 scenario = record {
@@ -39,58 +34,19 @@ scenario = record {
 
 abbrev pub choices : List Choice
 choices =
-    (choice.StartActive site.A ∷ [])
-    ++ replicate 11 (choice.Step site.A)
-    ++ (choice.StartStandby site.B ∷ [])
-    ++ replicate 10 (choice.Step site.B)
-    ++ (choice.Cebt site.B cebt.PerformTakeover ∷ choice.Tick ∷ [])
-    ++ replicate 10 (choice.Step site.B)
+    to_commanded ++ choice.Step site.B ∷ []
 
 abbrev pub trace : List Entry
 trace =
     entry_of 1 who.B 2 (act.Clt 1) land.Full ∷
-    entry_of 1 who.B 2 (act.Release) land.Full ∷
-    entry_of 1 who.B 2 (act.CtlWrite (of_parts 1 2 (Some (record { inc = 1; site = site.A; state = state.Running })) (Some (record { inc = 2; site = site.B })) (Some (record { inc = 2; cause = cause.Command })))) land.Full ∷
-    entry_of 1 who.B 2 (act.CtlRead) land.Full ∷
-    entry_of 1 who.B 2 (act.Reserve) land.Full ∷
-    entry_of 1 who.B 2 (act.Decide (decided.Alternate (decision.Start cause.Command))) land.Full ∷
-    entry_of 1 who.B 2 (act.Look2) land.Full ∷
-    entry_of 1 who.B 2 (act.Look1) land.Full ∷
-    entry_of 1 who.B 2 (act.Signal2 (of_numbers 2 2 0)) land.Full ∷
-    entry_of 1 who.B 2 (act.Signal1 (of_numbers 2 2 0)) land.Full ∷
-    entry_of 1 who.Env 0 (act.Tick) land.Full ∷
-    entry_of 0 who.B 2 (act.Cebt cebt.PerformTakeover reply.TakeoverAccepted) land.Full ∷
-    entry_of 0 who.B 2 (act.MsgRead 0) land.Full ∷
-    entry_of 0 who.B 2 (act.Decide (decided.Alternate decision.Nothing)) land.Full ∷
-    entry_of 0 who.B 2 (act.Look2) land.Full ∷
-    entry_of 0 who.B 2 (act.Look1) land.Full ∷
-    entry_of 0 who.B 2 (act.Signal2 (of_numbers 2 1 0)) land.Full ∷
-    entry_of 0 who.B 2 (act.Signal1 (of_numbers 2 1 0)) land.Full ∷
-    entry_of 0 who.B 2 (act.Release) land.Full ∷
-    entry_of 0 who.B 2 (act.CtlWrite (of_parts 1 2 (Some (record { inc = 1; site = site.A; state = state.Running })) (Some (record { inc = 2; site = site.B })) None)) land.Full ∷
-    entry_of 0 who.B 0 (act.CtlRead) land.Full ∷
-    entry_of 0 who.B 0 (act.Reserve) land.Full ∷
-    entry_of 0 who.B 0 (act.StartStandby) land.Full ∷
-    entry_of 0 who.A 1 (act.Restarted) land.Full ∷
-    entry_of 0 who.A 1 (act.LogRead 0) land.Full ∷
-    entry_of 0 who.A 1 (act.Decide (decided.Owner acting.Nothing)) land.Full ∷
-    entry_of 0 who.A 1 (act.Look2) land.Full ∷
-    entry_of 0 who.A 1 (act.Look1) land.Full ∷
-    entry_of 0 who.A 1 (act.Signal2 (of_numbers 1 1 0)) land.Full ∷
-    entry_of 0 who.A 1 (act.Signal1 (of_numbers 1 1 0)) land.Full ∷
-    entry_of 0 who.A 1 (act.Release) land.Full ∷
-    entry_of 0 who.A 1 (act.CtlWrite (of_parts 1 1 (Some (record { inc = 1; site = site.A; state = state.Running })) None None)) land.Full ∷
-    entry_of 0 who.A 0 (act.CtlRead) land.Full ∷
-    entry_of 0 who.A 0 (act.Reserve) land.Full ∷
-    entry_of 0 who.A 0 (act.StartActive) land.Full ∷
-    []
+    commanded
 
 abbrev pub told : Told
 told = record {
   answers_a = [];
   answers_b = [];
   tick = 1;
-  held = (of_parts 1 2 (Some (record { inc = 1; site = site.A; state = state.Running })) (Some (record { inc = 2; site = site.B })) (Some (record { inc = 2; cause = cause.Command })));
+  held = of_parts 1 2 (owner_of 1 site.A state.Running) (alt_of 2 site.B) (taking_of 2 cause.Command);
   records = 0;
   done = 0;
   undone = 0;

@@ -1,5 +1,5 @@
--- The operator is asked.
-use Rattle.std.specs.Prelude.{true, false, List, [], ◌∷◌, replicate, Some, None, ◌++◌}
+-- Under MANUAL the operator is asked: IGNORE waits for the next loss, GO starts the takeover.
+use Rattle.std.specs.Prelude.{true, false, List, [], ◌∷◌, ◌++◌, replicate, Some, None}
 use Rattle.xrf_base.specs.declared.site.Site.TheVariants as site
 use Rattle.xrf_base.specs.declared.site.Takeovr.TheVariants as takeovr
 use Rattle.xrf_ctl.specs.declared.parts.Level.TheVariants as level
@@ -8,7 +8,6 @@ use Rattle.xrf_ctl.specs.declared.parts.Cause.TheVariants as cause
 use Rattle.xrf_ctl.specs.Control.{of_parts}
 use Rattle.xrf_ctl.specs.Signal.{of_numbers}
 use Rattle.xrf_cavm.specs.declared.decisions.Decision.TheVariants as decision
-use Rattle.xrf_cavm.specs.declared.decisions.Acting.TheVariants as acting
 use Rattle.xrf_cavm.specs.declared.decisions.Decided.TheVariants as decided
 use Rattle.xrf_forms.specs.declared.choice.Choice.{Choice}
 use Rattle.xrf_forms.specs.declared.choice.Choice.TheVariants as choice
@@ -17,7 +16,8 @@ use Rattle.xrf_trace.specs.declared.entry.Entry.{Entry}
 use Rattle.xrf_trace.specs.declared.entry.Land.TheVariants as land
 use Rattle.xrf_trace.specs.declared.entry.Who.TheVariants as who
 use Rattle.xrf_trace.specs.Scenario.{Scen}
-use Rattle.xrf_examples.specs.Making.{Told, entry_of}
+use Rattle.xrf_examples.specs.Making.{Told, entry_of, owner_of, alt_of, taking_of}
+use Rattle.xrf_examples.specs.Takeovers.{unheard, to_unheard}
 
 abbrev pub scenario : Scen
 scenario = record {
@@ -37,148 +37,81 @@ scenario = record {
 
 abbrev pub choices : List Choice
 choices =
-    (choice.StartActive site.A ∷ [])
-    ++ replicate 11 (choice.Step site.A)
-    ++ (choice.StartStandby site.B ∷ [])
-    ++ replicate 10 (choice.Step site.B)
-    ++ (choice.Tick ∷ [])
-    ++ replicate 6 (choice.Step site.B)
-    ++ (choice.Tick ∷ [])
-    ++ replicate 6 (choice.Step site.B)
-    ++ (choice.Tick ∷ [])
-    ++ replicate 6 (choice.Step site.B)
-    ++ (choice.Tick ∷ [])
-    ++ replicate 6 (choice.Step site.B)
-    ++ (choice.Tick ∷ [])
-    ++ replicate 6 (choice.Step site.B)
-    ++ (choice.Reply site.B false ∷ choice.Tick ∷ [])
-    ++ replicate 6 (choice.Step site.B)
-    ++ (choice.Tick ∷ [])
-    ++ replicate 6 (choice.Step site.B)
-    ++ (choice.Tick ∷ [])
-    ++ replicate 6 (choice.Step site.B)
-    ++ (choice.Tick ∷ [])
-    ++ replicate 6 (choice.Step site.B)
-    ++ (choice.Tick ∷ [])
-    ++ replicate 6 (choice.Step site.B)
-    ++ (choice.Reply site.B true ∷ choice.Tick ∷ [])
-    ++ replicate 9 (choice.Step site.B)
+    to_unheard ++ replicate 6 (choice.Step site.B) ++ choice.Tick ∷ replicate 6 (choice.Step site.B) ++ choice.Reply site.B false ∷ choice.Tick ∷
+    replicate 6 (choice.Step site.B) ++ choice.Tick ∷ replicate 6 (choice.Step site.B) ++ choice.Tick ∷ replicate 6 (choice.Step site.B) ++
+    choice.Tick ∷ replicate 6 (choice.Step site.B) ++ choice.Tick ∷ replicate 6 (choice.Step site.B) ++ choice.Reply site.B true ∷ choice.Tick ∷
+    replicate 9 (choice.Step site.B)
 
 abbrev pub trace : List Entry
 trace =
-    entry_of 11 who.B 2 (act.Release) land.Full ∷
-    entry_of 11 who.B 2 (act.CtlWrite (of_parts 1 2 (Some (record { inc = 1; site = site.A; state = state.Running })) (Some (record { inc = 2; site = site.B })) (Some (record { inc = 2; cause = cause.Lost })))) land.Full ∷
-    entry_of 11 who.B 2 (act.CtlRead) land.Full ∷
-    entry_of 11 who.B 2 (act.Reserve) land.Full ∷
+    entry_of 11 who.B 2 act.Release land.Full ∷
+    entry_of 11 who.B 2 (act.CtlWrite (of_parts 1 2 (owner_of 1 site.A state.Running) (alt_of 2 site.B) (taking_of 2 cause.Lost))) land.Full ∷
+    entry_of 11 who.B 2 act.CtlRead land.Full ∷
+    entry_of 11 who.B 2 act.Reserve land.Full ∷
     entry_of 11 who.B 2 (act.Decide (decided.Alternate (decision.Start cause.Lost))) land.Full ∷
-    entry_of 11 who.B 2 (act.Look2) land.Full ∷
-    entry_of 11 who.B 2 (act.Look1) land.Full ∷
+    entry_of 11 who.B 2 act.Look2 land.Full ∷
+    entry_of 11 who.B 2 act.Look1 land.Full ∷
     entry_of 11 who.B 2 (act.Signal2 (of_numbers 2 12 0)) land.Full ∷
     entry_of 11 who.B 2 (act.Signal1 (of_numbers 2 12 0)) land.Full ∷
-    entry_of 11 who.Env 0 (act.Tick) land.Full ∷
+    entry_of 11 who.Env 0 act.Tick land.Full ∷
     entry_of 10 who.B 2 (act.Reply true) land.Full ∷
     entry_of 10 who.B 2 (act.MsgRead 0) land.Full ∷
     entry_of 10 who.B 2 (act.Decide (decided.Alternate decision.Ask)) land.Full ∷
-    entry_of 10 who.B 2 (act.Look2) land.Full ∷
-    entry_of 10 who.B 2 (act.Look1) land.Full ∷
+    entry_of 10 who.B 2 act.Look2 land.Full ∷
+    entry_of 10 who.B 2 act.Look1 land.Full ∷
     entry_of 10 who.B 2 (act.Signal2 (of_numbers 2 11 0)) land.Full ∷
     entry_of 10 who.B 2 (act.Signal1 (of_numbers 2 11 0)) land.Full ∷
-    entry_of 10 who.Env 0 (act.Tick) land.Full ∷
+    entry_of 10 who.Env 0 act.Tick land.Full ∷
     entry_of 9 who.B 2 (act.MsgRead 0) land.Full ∷
     entry_of 9 who.B 2 (act.Decide (decided.Alternate decision.Nothing)) land.Full ∷
-    entry_of 9 who.B 2 (act.Look2) land.Full ∷
-    entry_of 9 who.B 2 (act.Look1) land.Full ∷
+    entry_of 9 who.B 2 act.Look2 land.Full ∷
+    entry_of 9 who.B 2 act.Look1 land.Full ∷
     entry_of 9 who.B 2 (act.Signal2 (of_numbers 2 10 0)) land.Full ∷
     entry_of 9 who.B 2 (act.Signal1 (of_numbers 2 10 0)) land.Full ∷
-    entry_of 9 who.Env 0 (act.Tick) land.Full ∷
+    entry_of 9 who.Env 0 act.Tick land.Full ∷
     entry_of 8 who.B 2 (act.MsgRead 0) land.Full ∷
     entry_of 8 who.B 2 (act.Decide (decided.Alternate decision.Nothing)) land.Full ∷
-    entry_of 8 who.B 2 (act.Look2) land.Full ∷
-    entry_of 8 who.B 2 (act.Look1) land.Full ∷
+    entry_of 8 who.B 2 act.Look2 land.Full ∷
+    entry_of 8 who.B 2 act.Look1 land.Full ∷
     entry_of 8 who.B 2 (act.Signal2 (of_numbers 2 9 0)) land.Full ∷
     entry_of 8 who.B 2 (act.Signal1 (of_numbers 2 9 0)) land.Full ∷
-    entry_of 8 who.Env 0 (act.Tick) land.Full ∷
+    entry_of 8 who.Env 0 act.Tick land.Full ∷
     entry_of 7 who.B 2 (act.MsgRead 0) land.Full ∷
     entry_of 7 who.B 2 (act.Decide (decided.Alternate decision.Nothing)) land.Full ∷
-    entry_of 7 who.B 2 (act.Look2) land.Full ∷
-    entry_of 7 who.B 2 (act.Look1) land.Full ∷
+    entry_of 7 who.B 2 act.Look2 land.Full ∷
+    entry_of 7 who.B 2 act.Look1 land.Full ∷
     entry_of 7 who.B 2 (act.Signal2 (of_numbers 2 8 0)) land.Full ∷
     entry_of 7 who.B 2 (act.Signal1 (of_numbers 2 8 0)) land.Full ∷
-    entry_of 7 who.Env 0 (act.Tick) land.Full ∷
+    entry_of 7 who.Env 0 act.Tick land.Full ∷
     entry_of 6 who.B 2 (act.MsgRead 0) land.Full ∷
     entry_of 6 who.B 2 (act.Decide (decided.Alternate decision.Nothing)) land.Full ∷
-    entry_of 6 who.B 2 (act.Look2) land.Full ∷
-    entry_of 6 who.B 2 (act.Look1) land.Full ∷
+    entry_of 6 who.B 2 act.Look2 land.Full ∷
+    entry_of 6 who.B 2 act.Look1 land.Full ∷
     entry_of 6 who.B 2 (act.Signal2 (of_numbers 2 7 0)) land.Full ∷
     entry_of 6 who.B 2 (act.Signal1 (of_numbers 2 7 0)) land.Full ∷
-    entry_of 6 who.Env 0 (act.Tick) land.Full ∷
+    entry_of 6 who.Env 0 act.Tick land.Full ∷
     entry_of 5 who.B 2 (act.Reply false) land.Full ∷
     entry_of 5 who.B 2 (act.MsgRead 0) land.Full ∷
     entry_of 5 who.B 2 (act.Decide (decided.Alternate decision.Ask)) land.Full ∷
-    entry_of 5 who.B 2 (act.Look2) land.Full ∷
-    entry_of 5 who.B 2 (act.Look1) land.Full ∷
+    entry_of 5 who.B 2 act.Look2 land.Full ∷
+    entry_of 5 who.B 2 act.Look1 land.Full ∷
     entry_of 5 who.B 2 (act.Signal2 (of_numbers 2 6 0)) land.Full ∷
     entry_of 5 who.B 2 (act.Signal1 (of_numbers 2 6 0)) land.Full ∷
-    entry_of 5 who.Env 0 (act.Tick) land.Full ∷
+    entry_of 5 who.Env 0 act.Tick land.Full ∷
     entry_of 4 who.B 2 (act.MsgRead 0) land.Full ∷
     entry_of 4 who.B 2 (act.Decide (decided.Alternate decision.Nothing)) land.Full ∷
-    entry_of 4 who.B 2 (act.Look2) land.Full ∷
-    entry_of 4 who.B 2 (act.Look1) land.Full ∷
+    entry_of 4 who.B 2 act.Look2 land.Full ∷
+    entry_of 4 who.B 2 act.Look1 land.Full ∷
     entry_of 4 who.B 2 (act.Signal2 (of_numbers 2 5 0)) land.Full ∷
     entry_of 4 who.B 2 (act.Signal1 (of_numbers 2 5 0)) land.Full ∷
-    entry_of 4 who.Env 0 (act.Tick) land.Full ∷
-    entry_of 3 who.B 2 (act.MsgRead 0) land.Full ∷
-    entry_of 3 who.B 2 (act.Decide (decided.Alternate decision.Nothing)) land.Full ∷
-    entry_of 3 who.B 2 (act.Look2) land.Full ∷
-    entry_of 3 who.B 2 (act.Look1) land.Full ∷
-    entry_of 3 who.B 2 (act.Signal2 (of_numbers 2 4 0)) land.Full ∷
-    entry_of 3 who.B 2 (act.Signal1 (of_numbers 2 4 0)) land.Full ∷
-    entry_of 3 who.Env 0 (act.Tick) land.Full ∷
-    entry_of 2 who.B 2 (act.MsgRead 0) land.Full ∷
-    entry_of 2 who.B 2 (act.Decide (decided.Alternate decision.Nothing)) land.Full ∷
-    entry_of 2 who.B 2 (act.Look2) land.Full ∷
-    entry_of 2 who.B 2 (act.Look1) land.Full ∷
-    entry_of 2 who.B 2 (act.Signal2 (of_numbers 2 3 0)) land.Full ∷
-    entry_of 2 who.B 2 (act.Signal1 (of_numbers 2 3 0)) land.Full ∷
-    entry_of 2 who.Env 0 (act.Tick) land.Full ∷
-    entry_of 1 who.B 2 (act.MsgRead 0) land.Full ∷
-    entry_of 1 who.B 2 (act.Decide (decided.Alternate decision.Nothing)) land.Full ∷
-    entry_of 1 who.B 2 (act.Look2) land.Full ∷
-    entry_of 1 who.B 2 (act.Look1) land.Full ∷
-    entry_of 1 who.B 2 (act.Signal2 (of_numbers 2 2 0)) land.Full ∷
-    entry_of 1 who.B 2 (act.Signal1 (of_numbers 2 2 0)) land.Full ∷
-    entry_of 1 who.Env 0 (act.Tick) land.Full ∷
-    entry_of 0 who.B 2 (act.MsgRead 0) land.Full ∷
-    entry_of 0 who.B 2 (act.Decide (decided.Alternate decision.Nothing)) land.Full ∷
-    entry_of 0 who.B 2 (act.Look2) land.Full ∷
-    entry_of 0 who.B 2 (act.Look1) land.Full ∷
-    entry_of 0 who.B 2 (act.Signal2 (of_numbers 2 1 0)) land.Full ∷
-    entry_of 0 who.B 2 (act.Signal1 (of_numbers 2 1 0)) land.Full ∷
-    entry_of 0 who.B 2 (act.Release) land.Full ∷
-    entry_of 0 who.B 2 (act.CtlWrite (of_parts 1 2 (Some (record { inc = 1; site = site.A; state = state.Running })) (Some (record { inc = 2; site = site.B })) None)) land.Full ∷
-    entry_of 0 who.B 0 (act.CtlRead) land.Full ∷
-    entry_of 0 who.B 0 (act.Reserve) land.Full ∷
-    entry_of 0 who.B 0 (act.StartStandby) land.Full ∷
-    entry_of 0 who.A 1 (act.Restarted) land.Full ∷
-    entry_of 0 who.A 1 (act.LogRead 0) land.Full ∷
-    entry_of 0 who.A 1 (act.Decide (decided.Owner acting.Nothing)) land.Full ∷
-    entry_of 0 who.A 1 (act.Look2) land.Full ∷
-    entry_of 0 who.A 1 (act.Look1) land.Full ∷
-    entry_of 0 who.A 1 (act.Signal2 (of_numbers 1 1 0)) land.Full ∷
-    entry_of 0 who.A 1 (act.Signal1 (of_numbers 1 1 0)) land.Full ∷
-    entry_of 0 who.A 1 (act.Release) land.Full ∷
-    entry_of 0 who.A 1 (act.CtlWrite (of_parts 1 1 (Some (record { inc = 1; site = site.A; state = state.Running })) None None)) land.Full ∷
-    entry_of 0 who.A 0 (act.CtlRead) land.Full ∷
-    entry_of 0 who.A 0 (act.Reserve) land.Full ∷
-    entry_of 0 who.A 0 (act.StartActive) land.Full ∷
-    []
+    unheard
 
 abbrev pub told : Told
 told = record {
   answers_a = [];
   answers_b = [];
   tick = 11;
-  held = (of_parts 1 2 (Some (record { inc = 1; site = site.A; state = state.Running })) (Some (record { inc = 2; site = site.B })) (Some (record { inc = 2; cause = cause.Lost })));
+  held = of_parts 1 2 (owner_of 1 site.A state.Running) (alt_of 2 site.B) (taking_of 2 cause.Lost);
   records = 0;
   done = 0;
   undone = 0;

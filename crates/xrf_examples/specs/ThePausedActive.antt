@@ -1,19 +1,17 @@
--- The paused active.
+-- The paused active sees the taking and signs off; the new active undoes its unit.
 use Rattle.std.specs.Prelude.{false, List, [], ◌∷◌, ◌++◌, replicate, codes, Some, None}
 use Rattle.xrf_base.specs.declared.site.Site.TheVariants as site
 use Rattle.xrf_base.specs.declared.site.Takeovr.TheVariants as takeovr
 use Rattle.xrf_base.specs.declared.items.Item.TheVariants as items
 use Rattle.xrf_base.specs.declared.items.ItemAnswer.TheVariants as answer
+use Rattle.xrf_base.specs.Values.{slot_of}
 use Rattle.xrf_ctl.specs.declared.parts.Level.TheVariants as level
 use Rattle.xrf_ctl.specs.declared.parts.OwnerState.TheVariants as state
 use Rattle.xrf_ctl.specs.declared.parts.Cause.TheVariants as cause
 use Rattle.xrf_ctl.specs.Control.{of_parts}
 use Rattle.xrf_ctl.specs.Signal.{of_numbers}
-use Rattle.xrf_cavm.specs.declared.decisions.Decision.TheVariants as decision
 use Rattle.xrf_cavm.specs.declared.decisions.Waiting.TheVariants as waiting
-use Rattle.xrf_cavm.specs.declared.decisions.Acting.TheVariants as acting
 use Rattle.xrf_cavm.specs.declared.decisions.Decided.TheVariants as decided
-use Rattle.xrf_exit.specs.declared.ExitAnswer.TheVariants as exit
 use Rattle.xrf_logrec.specs.declared.records.LogRec.TheVariants as rec
 use Rattle.xrf_history.specs.declared.want.EndWhy.TheVariants as end
 use Rattle.xrf_forms.specs.declared.choice.Choice.{Choice}
@@ -23,7 +21,8 @@ use Rattle.xrf_trace.specs.declared.entry.Entry.{Entry}
 use Rattle.xrf_trace.specs.declared.entry.Land.TheVariants as land
 use Rattle.xrf_trace.specs.declared.entry.Who.TheVariants as who
 use Rattle.xrf_trace.specs.Scenario.{Scen}
-use Rattle.xrf_examples.specs.Making.{Told, entry_of}
+use Rattle.xrf_examples.specs.Making.{Told, entry_of, owner_of, alt_of, taking_of, unit_of}
+use Rattle.xrf_examples.specs.Takeovers.{paused, to_paused}
 
 abbrev pub scenario : Scen
 scenario = record {
@@ -43,134 +42,43 @@ scenario = record {
 
 abbrev pub choices : List Choice
 choices =
-    (choice.StartActive site.A ∷ [])
-    ++ replicate 14 (choice.Step site.A)
-    ++ (choice.StartStandby site.B ∷ [])
-    ++ replicate 10 (choice.Step site.B)
-    ++ (choice.Tick ∷ [])
-    ++ replicate 6 (choice.Step site.B)
-    ++ (choice.Tick ∷ [])
-    ++ replicate 6 (choice.Step site.B)
-    ++ (choice.Tick ∷ [])
-    ++ replicate 6 (choice.Step site.B)
-    ++ (choice.Tick ∷ [])
-    ++ replicate 6 (choice.Step site.B)
-    ++ (choice.Tick ∷ [])
-    ++ replicate 9 (choice.Step site.B)
-    ++ replicate 8 (choice.Step site.A)
-    ++ (choice.Exit site.A exit.Abend ∷ [])
-    ++ replicate 5 (choice.Step site.A)
-    ++ (choice.Tick ∷ [])
-    ++ replicate 15 (choice.Step site.B)
+    to_paused ++ replicate 5 (choice.Step site.A) ++ choice.Tick ∷ replicate 15 (choice.Step site.B)
 
 abbrev pub trace : List Entry
 trace =
-    entry_of 6 who.B 2 (act.Restarted) land.Full ∷
-    entry_of 6 who.B 2 (act.LogOpen 1 (rec.Backout (record { inc = 1; serial = 1 }))) land.Full ∷
-    entry_of 6 who.B 2 (act.LogBody 1 (rec.Backout (record { inc = 1; serial = 1 }))) land.Full ∷
-    entry_of 6 who.B 2 (act.Undo 1 ((1 ∷ 0 ∷ 0 ∷ 0 ∷ 0 ∷ 0 ∷ 0 ∷ 0 ∷ 79 ∷ 76 ∷ 68 ∷ []) ++ replicate 21 32)) land.Full ∷
+    entry_of 6 who.B 2 act.Restarted land.Full ∷
+    entry_of 6 who.B 2 (act.LogOpen 1 (rec.Backout (unit_of 1 1))) land.Full ∷
+    entry_of 6 who.B 2 (act.LogBody 1 (rec.Backout (unit_of 1 1))) land.Full ∷
+    entry_of 6 who.B 2 (act.Undo 1 (slot_of (Some (codes "OLD")))) land.Full ∷
     entry_of 6 who.B 2 (act.LogRead 0) land.Full ∷
     entry_of 6 who.B 2 (act.MsgRead 0) land.Full ∷
-    entry_of 6 who.B 2 (act.Release) land.Full ∷
-    entry_of 6 who.B 2 (act.CtlWrite (of_parts 1 2 (Some (record { inc = 2; site = site.B; state = state.Running })) None None)) land.Full ∷
-    entry_of 6 who.B 2 (act.CtlRead) land.Full ∷
-    entry_of 6 who.B 2 (act.Reserve) land.Full ∷
+    entry_of 6 who.B 2 act.Release land.Full ∷
+    entry_of 6 who.B 2 (act.CtlWrite (of_parts 1 2 (owner_of 2 site.B state.Running) None None)) land.Full ∷
+    entry_of 6 who.B 2 act.CtlRead land.Full ∷
+    entry_of 6 who.B 2 act.Reserve land.Full ∷
     entry_of 6 who.B 2 (act.Decide (decided.Waiting waiting.Through)) land.Full ∷
-    entry_of 6 who.B 2 (act.Look2) land.Full ∷
-    entry_of 6 who.B 2 (act.Look1) land.Full ∷
+    entry_of 6 who.B 2 act.Look2 land.Full ∷
+    entry_of 6 who.B 2 act.Look1 land.Full ∷
     entry_of 6 who.B 2 (act.Signal2 (of_numbers 2 7 0)) land.Full ∷
     entry_of 6 who.B 2 (act.Signal1 (of_numbers 2 7 0)) land.Full ∷
-    entry_of 6 who.Env 0 (act.Tick) land.Full ∷
+    entry_of 6 who.Env 0 act.Tick land.Full ∷
     entry_of 5 who.A 1 (act.Ended end.SignedOff) land.Full ∷
-    entry_of 5 who.A 1 (act.Release) land.Full ∷
-    entry_of 5 who.A 1 (act.CtlWrite (of_parts 1 2 (Some (record { inc = 1; site = site.A; state = state.OffAbend })) (Some (record { inc = 2; site = site.B })) (Some (record { inc = 2; cause = cause.Lost })))) land.Full ∷
-    entry_of 5 who.A 1 (act.CtlRead) land.Full ∷
-    entry_of 5 who.A 1 (act.Reserve) land.Full ∷
-    entry_of 5 who.A 1 (act.Exit exit.Abend) land.Full ∷
-    entry_of 5 who.A 1 (act.Decide (decided.Owner acting.Seen)) land.Full ∷
-    entry_of 5 who.A 1 (act.Look2) land.Full ∷
-    entry_of 5 who.A 1 (act.Look1) land.Full ∷
-    entry_of 5 who.A 1 (act.Signal2 (of_numbers 1 2 0)) land.Full ∷
-    entry_of 5 who.A 1 (act.Signal1 (of_numbers 1 2 0)) land.Full ∷
-    entry_of 5 who.A 1 (act.FileWrite (record { inc = 1; serial = 1 }) 1 (codes "NEW")) land.Full ∷
-    entry_of 5 who.A 1 (act.LogOpen 0 (rec.Put (record { inc = 1; serial = 1 }) 1 ((1 ∷ 0 ∷ 0 ∷ 0 ∷ 0 ∷ 0 ∷ 0 ∷ 0 ∷ 79 ∷ 76 ∷ 68 ∷ []) ++ replicate 21 32))) land.Full ∷
-    entry_of 5 who.A 1 (act.LogBody 0 (rec.Put (record { inc = 1; serial = 1 }) 1 ((1 ∷ 0 ∷ 0 ∷ 0 ∷ 0 ∷ 0 ∷ 0 ∷ 0 ∷ 79 ∷ 76 ∷ 68 ∷ []) ++ replicate 21 32))) land.Full ∷
-    entry_of 5 who.B 2 (act.Release) land.Full ∷
-    entry_of 5 who.B 2 (act.CtlWrite (of_parts 1 2 (Some (record { inc = 1; site = site.A; state = state.Running })) (Some (record { inc = 2; site = site.B })) (Some (record { inc = 2; cause = cause.Lost })))) land.Full ∷
-    entry_of 5 who.B 2 (act.CtlRead) land.Full ∷
-    entry_of 5 who.B 2 (act.Reserve) land.Full ∷
-    entry_of 5 who.B 2 (act.Decide (decided.Alternate (decision.Start cause.Lost))) land.Full ∷
-    entry_of 5 who.B 2 (act.Look2) land.Full ∷
-    entry_of 5 who.B 2 (act.Look1) land.Full ∷
-    entry_of 5 who.B 2 (act.Signal2 (of_numbers 2 6 0)) land.Full ∷
-    entry_of 5 who.B 2 (act.Signal1 (of_numbers 2 6 0)) land.Full ∷
-    entry_of 5 who.Env 0 (act.Tick) land.Full ∷
-    entry_of 4 who.B 2 (act.MsgRead 0) land.Full ∷
-    entry_of 4 who.B 2 (act.Decide (decided.Alternate decision.Nothing)) land.Full ∷
-    entry_of 4 who.B 2 (act.Look2) land.Full ∷
-    entry_of 4 who.B 2 (act.Look1) land.Full ∷
-    entry_of 4 who.B 2 (act.Signal2 (of_numbers 2 5 0)) land.Full ∷
-    entry_of 4 who.B 2 (act.Signal1 (of_numbers 2 5 0)) land.Full ∷
-    entry_of 4 who.Env 0 (act.Tick) land.Full ∷
-    entry_of 3 who.B 2 (act.MsgRead 0) land.Full ∷
-    entry_of 3 who.B 2 (act.Decide (decided.Alternate decision.Nothing)) land.Full ∷
-    entry_of 3 who.B 2 (act.Look2) land.Full ∷
-    entry_of 3 who.B 2 (act.Look1) land.Full ∷
-    entry_of 3 who.B 2 (act.Signal2 (of_numbers 2 4 0)) land.Full ∷
-    entry_of 3 who.B 2 (act.Signal1 (of_numbers 2 4 0)) land.Full ∷
-    entry_of 3 who.Env 0 (act.Tick) land.Full ∷
-    entry_of 2 who.B 2 (act.MsgRead 0) land.Full ∷
-    entry_of 2 who.B 2 (act.Decide (decided.Alternate decision.Nothing)) land.Full ∷
-    entry_of 2 who.B 2 (act.Look2) land.Full ∷
-    entry_of 2 who.B 2 (act.Look1) land.Full ∷
-    entry_of 2 who.B 2 (act.Signal2 (of_numbers 2 3 0)) land.Full ∷
-    entry_of 2 who.B 2 (act.Signal1 (of_numbers 2 3 0)) land.Full ∷
-    entry_of 2 who.Env 0 (act.Tick) land.Full ∷
-    entry_of 1 who.B 2 (act.MsgRead 0) land.Full ∷
-    entry_of 1 who.B 2 (act.Decide (decided.Alternate decision.Nothing)) land.Full ∷
-    entry_of 1 who.B 2 (act.Look2) land.Full ∷
-    entry_of 1 who.B 2 (act.Look1) land.Full ∷
-    entry_of 1 who.B 2 (act.Signal2 (of_numbers 2 2 0)) land.Full ∷
-    entry_of 1 who.B 2 (act.Signal1 (of_numbers 2 2 0)) land.Full ∷
-    entry_of 1 who.Env 0 (act.Tick) land.Full ∷
-    entry_of 0 who.B 2 (act.MsgRead 0) land.Full ∷
-    entry_of 0 who.B 2 (act.Decide (decided.Alternate decision.Nothing)) land.Full ∷
-    entry_of 0 who.B 2 (act.Look2) land.Full ∷
-    entry_of 0 who.B 2 (act.Look1) land.Full ∷
-    entry_of 0 who.B 2 (act.Signal2 (of_numbers 2 1 0)) land.Full ∷
-    entry_of 0 who.B 2 (act.Signal1 (of_numbers 2 1 0)) land.Full ∷
-    entry_of 0 who.B 2 (act.Release) land.Full ∷
-    entry_of 0 who.B 2 (act.CtlWrite (of_parts 1 2 (Some (record { inc = 1; site = site.A; state = state.Running })) (Some (record { inc = 2; site = site.B })) None)) land.Full ∷
-    entry_of 0 who.B 0 (act.CtlRead) land.Full ∷
-    entry_of 0 who.B 0 (act.Reserve) land.Full ∷
-    entry_of 0 who.B 0 (act.StartStandby) land.Full ∷
-    entry_of 0 who.A 1 (act.FileRead 1) land.Full ∷
-    entry_of 0 who.A 1 (act.Item 2) land.Full ∷
-    entry_of 0 who.A 1 (act.Item 1) land.Full ∷
-    entry_of 0 who.A 1 (act.Restarted) land.Full ∷
-    entry_of 0 who.A 1 (act.LogRead 0) land.Full ∷
-    entry_of 0 who.A 1 (act.Decide (decided.Owner acting.Nothing)) land.Full ∷
-    entry_of 0 who.A 1 (act.Look2) land.Full ∷
-    entry_of 0 who.A 1 (act.Look1) land.Full ∷
-    entry_of 0 who.A 1 (act.Signal2 (of_numbers 1 1 0)) land.Full ∷
-    entry_of 0 who.A 1 (act.Signal1 (of_numbers 1 1 0)) land.Full ∷
-    entry_of 0 who.A 1 (act.Release) land.Full ∷
-    entry_of 0 who.A 1 (act.CtlWrite (of_parts 1 1 (Some (record { inc = 1; site = site.A; state = state.Running })) None None)) land.Full ∷
-    entry_of 0 who.A 0 (act.CtlRead) land.Full ∷
-    entry_of 0 who.A 0 (act.Reserve) land.Full ∷
-    entry_of 0 who.A 0 (act.StartActive) land.Full ∷
-    []
+    entry_of 5 who.A 1 act.Release land.Full ∷
+    entry_of 5 who.A 1 (act.CtlWrite (of_parts 1 2 (owner_of 1 site.A state.OffAbend) (alt_of 2 site.B) (taking_of 2 cause.Lost))) land.Full ∷
+    entry_of 5 who.A 1 act.CtlRead land.Full ∷
+    entry_of 5 who.A 1 act.Reserve land.Full ∷
+    paused
 
 abbrev pub told : Told
 told = record {
   answers_a = Some answer.Done ∷ Some answer.Done ∷ [];
   answers_b = [];
   tick = 6;
-  held = (of_parts 1 2 (Some (record { inc = 2; site = site.B; state = state.Running })) None None);
+  held = of_parts 1 2 (owner_of 2 site.B state.Running) None None;
   records = 2;
   done = 0;
   undone = 0;
-  file = (Some (Some (codes "OLD")) ∷ []) ++ replicate 3 (Some None);
+  file = Some (Some (codes "OLD")) ∷ replicate 3 (Some None);
   table_a = [];
   table_b = [];
 }

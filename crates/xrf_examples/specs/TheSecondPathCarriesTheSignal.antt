@@ -1,5 +1,5 @@
--- The second path carries the signal.
-use Rattle.std.specs.Prelude.{false, List, [], ◌∷◌, replicate, Some, None, ◌++◌}
+-- An active whose first path is lost in each round is still seen by the second path.
+use Rattle.std.specs.Prelude.{false, List, [], ◌∷◌, ◌++◌, replicate, Some, None}
 use Rattle.xrf_base.specs.declared.site.Site.TheVariants as site
 use Rattle.xrf_base.specs.declared.site.Takeovr.TheVariants as takeovr
 use Rattle.xrf_ctl.specs.declared.parts.Level.TheVariants as level
@@ -16,7 +16,8 @@ use Rattle.xrf_trace.specs.declared.entry.Entry.{Entry}
 use Rattle.xrf_trace.specs.declared.entry.Land.TheVariants as land
 use Rattle.xrf_trace.specs.declared.entry.Who.TheVariants as who
 use Rattle.xrf_trace.specs.Scenario.{Scen}
-use Rattle.xrf_examples.specs.Making.{Told, entry_of}
+use Rattle.xrf_examples.specs.Making.{Told, entry_of, owner_of, alt_of}
+use Rattle.xrf_examples.specs.Beginnings.{tracking, to_tracking}
 
 abbrev pub scenario : Scen
 scenario = record {
@@ -36,134 +37,94 @@ scenario = record {
 
 abbrev pub choices : List Choice
 choices =
-    (choice.StartActive site.A ∷ [])
-    ++ replicate 11 (choice.Step site.A)
-    ++ (choice.StartStandby site.B ∷ [])
-    ++ replicate 10 (choice.Step site.B)
-    ++ (choice.Tick ∷ choice.Lose site.A ∷ [])
-    ++ replicate 4 (choice.Step site.A)
-    ++ replicate 6 (choice.Step site.B)
-    ++ (choice.Tick ∷ choice.Lose site.A ∷ [])
-    ++ replicate 4 (choice.Step site.A)
-    ++ replicate 6 (choice.Step site.B)
-    ++ (choice.Tick ∷ choice.Lose site.A ∷ [])
-    ++ replicate 4 (choice.Step site.A)
-    ++ replicate 6 (choice.Step site.B)
-    ++ (choice.Tick ∷ choice.Lose site.A ∷ [])
-    ++ replicate 4 (choice.Step site.A)
-    ++ replicate 6 (choice.Step site.B)
-    ++ (choice.Tick ∷ choice.Lose site.A ∷ [])
-    ++ replicate 4 (choice.Step site.A)
-    ++ replicate 6 (choice.Step site.B)
-    ++ (choice.Tick ∷ choice.Lose site.A ∷ [])
-    ++ replicate 4 (choice.Step site.A)
-    ++ replicate 6 (choice.Step site.B)
+    to_tracking ++ choice.Tick ∷ choice.Lose site.A ∷ replicate 4 (choice.Step site.A) ++ replicate 6 (choice.Step site.B) ++ choice.Tick ∷
+    choice.Lose site.A ∷ replicate 4 (choice.Step site.A) ++ replicate 6 (choice.Step site.B) ++ choice.Tick ∷ choice.Lose site.A ∷
+    replicate 4 (choice.Step site.A) ++ replicate 6 (choice.Step site.B) ++ choice.Tick ∷ choice.Lose site.A ∷ replicate 4 (choice.Step site.A) ++
+    replicate 6 (choice.Step site.B) ++ choice.Tick ∷ choice.Lose site.A ∷ replicate 4 (choice.Step site.A) ++ replicate 6 (choice.Step site.B) ++
+    choice.Tick ∷ choice.Lose site.A ∷ replicate 4 (choice.Step site.A) ++ replicate 6 (choice.Step site.B)
 
 abbrev pub trace : List Entry
 trace =
     entry_of 6 who.B 2 (act.MsgRead 0) land.Full ∷
     entry_of 6 who.B 2 (act.Decide (decided.Alternate decision.Nothing)) land.Full ∷
-    entry_of 6 who.B 2 (act.Look2) land.Full ∷
-    entry_of 6 who.B 2 (act.Look1) land.Full ∷
+    entry_of 6 who.B 2 act.Look2 land.Full ∷
+    entry_of 6 who.B 2 act.Look1 land.Full ∷
     entry_of 6 who.B 2 (act.Signal2 (of_numbers 2 7 0)) land.Full ∷
     entry_of 6 who.B 2 (act.Signal1 (of_numbers 2 7 0)) land.Full ∷
     entry_of 6 who.A 1 (act.Decide (decided.Owner acting.Nothing)) land.Full ∷
-    entry_of 6 who.A 1 (act.Look2) land.Full ∷
-    entry_of 6 who.A 1 (act.Look1) land.Full ∷
+    entry_of 6 who.A 1 act.Look2 land.Full ∷
+    entry_of 6 who.A 1 act.Look1 land.Full ∷
     entry_of 6 who.A 1 (act.Signal2 (of_numbers 1 7 0)) land.Full ∷
     entry_of 6 who.A 1 (act.Signal1 (of_numbers 1 7 0)) land.Lost ∷
-    entry_of 6 who.Env 0 (act.Tick) land.Full ∷
+    entry_of 6 who.Env 0 act.Tick land.Full ∷
     entry_of 5 who.B 2 (act.MsgRead 0) land.Full ∷
     entry_of 5 who.B 2 (act.Decide (decided.Alternate decision.Nothing)) land.Full ∷
-    entry_of 5 who.B 2 (act.Look2) land.Full ∷
-    entry_of 5 who.B 2 (act.Look1) land.Full ∷
+    entry_of 5 who.B 2 act.Look2 land.Full ∷
+    entry_of 5 who.B 2 act.Look1 land.Full ∷
     entry_of 5 who.B 2 (act.Signal2 (of_numbers 2 6 0)) land.Full ∷
     entry_of 5 who.B 2 (act.Signal1 (of_numbers 2 6 0)) land.Full ∷
     entry_of 5 who.A 1 (act.Decide (decided.Owner acting.Nothing)) land.Full ∷
-    entry_of 5 who.A 1 (act.Look2) land.Full ∷
-    entry_of 5 who.A 1 (act.Look1) land.Full ∷
+    entry_of 5 who.A 1 act.Look2 land.Full ∷
+    entry_of 5 who.A 1 act.Look1 land.Full ∷
     entry_of 5 who.A 1 (act.Signal2 (of_numbers 1 6 0)) land.Full ∷
     entry_of 5 who.A 1 (act.Signal1 (of_numbers 1 6 0)) land.Lost ∷
-    entry_of 5 who.Env 0 (act.Tick) land.Full ∷
+    entry_of 5 who.Env 0 act.Tick land.Full ∷
     entry_of 4 who.B 2 (act.MsgRead 0) land.Full ∷
     entry_of 4 who.B 2 (act.Decide (decided.Alternate decision.Nothing)) land.Full ∷
-    entry_of 4 who.B 2 (act.Look2) land.Full ∷
-    entry_of 4 who.B 2 (act.Look1) land.Full ∷
+    entry_of 4 who.B 2 act.Look2 land.Full ∷
+    entry_of 4 who.B 2 act.Look1 land.Full ∷
     entry_of 4 who.B 2 (act.Signal2 (of_numbers 2 5 0)) land.Full ∷
     entry_of 4 who.B 2 (act.Signal1 (of_numbers 2 5 0)) land.Full ∷
     entry_of 4 who.A 1 (act.Decide (decided.Owner acting.Nothing)) land.Full ∷
-    entry_of 4 who.A 1 (act.Look2) land.Full ∷
-    entry_of 4 who.A 1 (act.Look1) land.Full ∷
+    entry_of 4 who.A 1 act.Look2 land.Full ∷
+    entry_of 4 who.A 1 act.Look1 land.Full ∷
     entry_of 4 who.A 1 (act.Signal2 (of_numbers 1 5 0)) land.Full ∷
     entry_of 4 who.A 1 (act.Signal1 (of_numbers 1 5 0)) land.Lost ∷
-    entry_of 4 who.Env 0 (act.Tick) land.Full ∷
+    entry_of 4 who.Env 0 act.Tick land.Full ∷
     entry_of 3 who.B 2 (act.MsgRead 0) land.Full ∷
     entry_of 3 who.B 2 (act.Decide (decided.Alternate decision.Nothing)) land.Full ∷
-    entry_of 3 who.B 2 (act.Look2) land.Full ∷
-    entry_of 3 who.B 2 (act.Look1) land.Full ∷
+    entry_of 3 who.B 2 act.Look2 land.Full ∷
+    entry_of 3 who.B 2 act.Look1 land.Full ∷
     entry_of 3 who.B 2 (act.Signal2 (of_numbers 2 4 0)) land.Full ∷
     entry_of 3 who.B 2 (act.Signal1 (of_numbers 2 4 0)) land.Full ∷
     entry_of 3 who.A 1 (act.Decide (decided.Owner acting.Nothing)) land.Full ∷
-    entry_of 3 who.A 1 (act.Look2) land.Full ∷
-    entry_of 3 who.A 1 (act.Look1) land.Full ∷
+    entry_of 3 who.A 1 act.Look2 land.Full ∷
+    entry_of 3 who.A 1 act.Look1 land.Full ∷
     entry_of 3 who.A 1 (act.Signal2 (of_numbers 1 4 0)) land.Full ∷
     entry_of 3 who.A 1 (act.Signal1 (of_numbers 1 4 0)) land.Lost ∷
-    entry_of 3 who.Env 0 (act.Tick) land.Full ∷
+    entry_of 3 who.Env 0 act.Tick land.Full ∷
     entry_of 2 who.B 2 (act.MsgRead 0) land.Full ∷
     entry_of 2 who.B 2 (act.Decide (decided.Alternate decision.Nothing)) land.Full ∷
-    entry_of 2 who.B 2 (act.Look2) land.Full ∷
-    entry_of 2 who.B 2 (act.Look1) land.Full ∷
+    entry_of 2 who.B 2 act.Look2 land.Full ∷
+    entry_of 2 who.B 2 act.Look1 land.Full ∷
     entry_of 2 who.B 2 (act.Signal2 (of_numbers 2 3 0)) land.Full ∷
     entry_of 2 who.B 2 (act.Signal1 (of_numbers 2 3 0)) land.Full ∷
     entry_of 2 who.A 1 (act.Decide (decided.Owner acting.Nothing)) land.Full ∷
-    entry_of 2 who.A 1 (act.Look2) land.Full ∷
-    entry_of 2 who.A 1 (act.Look1) land.Full ∷
+    entry_of 2 who.A 1 act.Look2 land.Full ∷
+    entry_of 2 who.A 1 act.Look1 land.Full ∷
     entry_of 2 who.A 1 (act.Signal2 (of_numbers 1 3 0)) land.Full ∷
     entry_of 2 who.A 1 (act.Signal1 (of_numbers 1 3 0)) land.Lost ∷
-    entry_of 2 who.Env 0 (act.Tick) land.Full ∷
+    entry_of 2 who.Env 0 act.Tick land.Full ∷
     entry_of 1 who.B 2 (act.MsgRead 0) land.Full ∷
     entry_of 1 who.B 2 (act.Decide (decided.Alternate decision.Nothing)) land.Full ∷
-    entry_of 1 who.B 2 (act.Look2) land.Full ∷
-    entry_of 1 who.B 2 (act.Look1) land.Full ∷
+    entry_of 1 who.B 2 act.Look2 land.Full ∷
+    entry_of 1 who.B 2 act.Look1 land.Full ∷
     entry_of 1 who.B 2 (act.Signal2 (of_numbers 2 2 0)) land.Full ∷
     entry_of 1 who.B 2 (act.Signal1 (of_numbers 2 2 0)) land.Full ∷
     entry_of 1 who.A 1 (act.Decide (decided.Owner (acting.CatchUp 2))) land.Full ∷
-    entry_of 1 who.A 1 (act.Look2) land.Full ∷
-    entry_of 1 who.A 1 (act.Look1) land.Full ∷
+    entry_of 1 who.A 1 act.Look2 land.Full ∷
+    entry_of 1 who.A 1 act.Look1 land.Full ∷
     entry_of 1 who.A 1 (act.Signal2 (of_numbers 1 2 0)) land.Full ∷
     entry_of 1 who.A 1 (act.Signal1 (of_numbers 1 2 0)) land.Lost ∷
-    entry_of 1 who.Env 0 (act.Tick) land.Full ∷
-    entry_of 0 who.B 2 (act.MsgRead 0) land.Full ∷
-    entry_of 0 who.B 2 (act.Decide (decided.Alternate decision.Nothing)) land.Full ∷
-    entry_of 0 who.B 2 (act.Look2) land.Full ∷
-    entry_of 0 who.B 2 (act.Look1) land.Full ∷
-    entry_of 0 who.B 2 (act.Signal2 (of_numbers 2 1 0)) land.Full ∷
-    entry_of 0 who.B 2 (act.Signal1 (of_numbers 2 1 0)) land.Full ∷
-    entry_of 0 who.B 2 (act.Release) land.Full ∷
-    entry_of 0 who.B 2 (act.CtlWrite (of_parts 1 2 (Some (record { inc = 1; site = site.A; state = state.Running })) (Some (record { inc = 2; site = site.B })) None)) land.Full ∷
-    entry_of 0 who.B 0 (act.CtlRead) land.Full ∷
-    entry_of 0 who.B 0 (act.Reserve) land.Full ∷
-    entry_of 0 who.B 0 (act.StartStandby) land.Full ∷
-    entry_of 0 who.A 1 (act.Restarted) land.Full ∷
-    entry_of 0 who.A 1 (act.LogRead 0) land.Full ∷
-    entry_of 0 who.A 1 (act.Decide (decided.Owner acting.Nothing)) land.Full ∷
-    entry_of 0 who.A 1 (act.Look2) land.Full ∷
-    entry_of 0 who.A 1 (act.Look1) land.Full ∷
-    entry_of 0 who.A 1 (act.Signal2 (of_numbers 1 1 0)) land.Full ∷
-    entry_of 0 who.A 1 (act.Signal1 (of_numbers 1 1 0)) land.Full ∷
-    entry_of 0 who.A 1 (act.Release) land.Full ∷
-    entry_of 0 who.A 1 (act.CtlWrite (of_parts 1 1 (Some (record { inc = 1; site = site.A; state = state.Running })) None None)) land.Full ∷
-    entry_of 0 who.A 0 (act.CtlRead) land.Full ∷
-    entry_of 0 who.A 0 (act.Reserve) land.Full ∷
-    entry_of 0 who.A 0 (act.StartActive) land.Full ∷
-    []
+    entry_of 1 who.Env 0 act.Tick land.Full ∷
+    tracking
 
 abbrev pub told : Told
 told = record {
   answers_a = [];
   answers_b = [];
   tick = 6;
-  held = (of_parts 1 2 (Some (record { inc = 1; site = site.A; state = state.Running })) (Some (record { inc = 2; site = site.B })) None);
+  held = of_parts 1 2 (owner_of 1 site.A state.Running) (alt_of 2 site.B) None;
   records = 0;
   done = 0;
   undone = 0;

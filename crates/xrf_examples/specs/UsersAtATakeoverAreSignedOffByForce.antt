@@ -1,5 +1,5 @@
--- Users at a takeover are signed off by force.
-use Rattle.std.specs.Prelude.{true, List, [], ◌∷◌, replicate, codes, Some, None, ◌++◌}
+-- Under FORCE the terminals go to the new active without their users.
+use Rattle.std.specs.Prelude.{true, List, [], ◌∷◌, ◌++◌, replicate, codes, Some, None}
 use Rattle.xrf_base.specs.declared.site.Site.TheVariants as site
 use Rattle.xrf_base.specs.declared.site.Takeovr.TheVariants as takeovr
 use Rattle.xrf_base.specs.declared.items.Item.TheVariants as items
@@ -7,25 +7,16 @@ use Rattle.xrf_base.specs.declared.items.ItemAnswer.TheVariants as answer
 use Rattle.xrf_terms.specs.declared.rows.How.TheVariants as how
 use Rattle.xrf_ctl.specs.declared.parts.Level.TheVariants as level
 use Rattle.xrf_ctl.specs.declared.parts.OwnerState.TheVariants as state
-use Rattle.xrf_ctl.specs.declared.parts.Cause.TheVariants as cause
 use Rattle.xrf_ctl.specs.Control.{of_parts}
-use Rattle.xrf_ctl.specs.Signal.{of_numbers}
-use Rattle.xrf_cavm.specs.declared.decisions.Decision.TheVariants as decision
-use Rattle.xrf_cavm.specs.declared.decisions.Waiting.TheVariants as waiting
-use Rattle.xrf_cavm.specs.declared.decisions.Acting.TheVariants as acting
-use Rattle.xrf_cavm.specs.declared.decisions.Decided.TheVariants as decided
-use Rattle.xrf_cebt.specs.declared.commands.Cebt.TheVariants as cebt
-use Rattle.xrf_cebt.specs.declared.replies.CebtReply.TheVariants as reply
-use Rattle.xrf_msg.specs.declared.messages.Message.TheVariants as message
 use Rattle.xrf_forms.specs.declared.choice.Choice.{Choice}
 use Rattle.xrf_forms.specs.declared.choice.Choice.TheVariants as choice
-use Rattle.xrf_forms.specs.declared.choice.Landing.TheVariants as landing
 use Rattle.xrf_trace.specs.declared.entry.Act.TheVariants as act
 use Rattle.xrf_trace.specs.declared.entry.Entry.{Entry}
 use Rattle.xrf_trace.specs.declared.entry.Land.TheVariants as land
 use Rattle.xrf_trace.specs.declared.entry.Who.TheVariants as who
 use Rattle.xrf_trace.specs.Scenario.{Scen}
-use Rattle.xrf_examples.specs.Making.{Told, entry_of}
+use Rattle.xrf_examples.specs.Making.{Told, entry_of, owner_of}
+use Rattle.xrf_examples.specs.Takeovers.{users_through, to_users_through}
 
 abbrev pub scenario : Scen
 scenario = record {
@@ -45,116 +36,27 @@ scenario = record {
 
 abbrev pub choices : List Choice
 choices =
-    (choice.StartActive site.A ∷ [])
-    ++ replicate 11 (choice.Step site.A)
-    ++ (choice.StartStandby site.B ∷ [])
-    ++ replicate 10 (choice.Step site.B)
-    ++ (choice.Tick ∷ [])
-    ++ replicate 23 (choice.Step site.A)
-    ++ replicate 11 (choice.Step site.B)
-    ++ (choice.Stop site.A landing.Nothing ∷ choice.Confirm 1 ∷ choice.Cebt site.B cebt.PerformTakeover ∷ choice.Tick ∷ [])
-    ++ replicate 9 (choice.Step site.B)
-    ++ (choice.Tick ∷ [])
-    ++ replicate 12 (choice.Step site.B)
+    to_users_through ++ replicate 3 (choice.Step site.B)
 
 abbrev pub trace : List Entry
 trace =
-    entry_of 3 who.B 2 (act.Restarted) land.Full ∷
+    entry_of 3 who.B 2 act.Restarted land.Full ∷
     entry_of 3 who.B 2 (act.LogRead 0) land.Full ∷
     entry_of 3 who.B 2 (act.MsgRead 5) land.Full ∷
-    entry_of 3 who.B 2 (act.Release) land.Full ∷
-    entry_of 3 who.B 2 (act.CtlWrite (of_parts 2 2 (Some (record { inc = 2; site = site.B; state = state.Running })) None None)) land.Full ∷
-    entry_of 3 who.B 2 (act.CtlRead) land.Full ∷
-    entry_of 3 who.B 2 (act.Reserve) land.Full ∷
-    entry_of 3 who.B 2 (act.Decide (decided.Waiting waiting.Through)) land.Full ∷
-    entry_of 3 who.B 2 (act.Look2) land.Full ∷
-    entry_of 3 who.B 2 (act.Look1) land.Full ∷
-    entry_of 3 who.B 2 (act.Signal2 (of_numbers 2 4 5)) land.Full ∷
-    entry_of 3 who.B 2 (act.Signal1 (of_numbers 2 4 5)) land.Full ∷
-    entry_of 3 who.Env 0 (act.Tick) land.Full ∷
-    entry_of 2 who.B 2 (act.Release) land.Full ∷
-    entry_of 2 who.B 2 (act.CtlWrite (of_parts 2 2 (Some (record { inc = 1; site = site.A; state = state.Running })) (Some (record { inc = 2; site = site.B })) (Some (record { inc = 2; cause = cause.Command })))) land.Full ∷
-    entry_of 2 who.B 2 (act.CtlRead) land.Full ∷
-    entry_of 2 who.B 2 (act.Reserve) land.Full ∷
-    entry_of 2 who.B 2 (act.Decide (decided.Alternate (decision.Start cause.Command))) land.Full ∷
-    entry_of 2 who.B 2 (act.Look2) land.Full ∷
-    entry_of 2 who.B 2 (act.Look1) land.Full ∷
-    entry_of 2 who.B 2 (act.Signal2 (of_numbers 2 3 5)) land.Full ∷
-    entry_of 2 who.B 2 (act.Signal1 (of_numbers 2 3 5)) land.Full ∷
-    entry_of 2 who.Env 0 (act.Tick) land.Full ∷
-    entry_of 1 who.B 2 (act.Cebt cebt.PerformTakeover reply.TakeoverAccepted) land.Full ∷
-    entry_of 1 who.Env 0 (act.Confirm 1) land.Full ∷
-    entry_of 1 who.A 1 (act.NoAct) (land.Stop landing.Nothing) ∷
-    entry_of 1 who.B 2 (act.MsgRead 5) land.Full ∷
-    entry_of 1 who.B 2 (act.MsgRead 4) land.Full ∷
-    entry_of 1 who.B 2 (act.MsgRead 3) land.Full ∷
-    entry_of 1 who.B 2 (act.MsgRead 2) land.Full ∷
-    entry_of 1 who.B 2 (act.MsgRead 1) land.Full ∷
-    entry_of 1 who.B 2 (act.MsgRead 0) land.Full ∷
-    entry_of 1 who.B 2 (act.Decide (decided.Alternate decision.Nothing)) land.Full ∷
-    entry_of 1 who.B 2 (act.Look2) land.Full ∷
-    entry_of 1 who.B 2 (act.Look1) land.Full ∷
-    entry_of 1 who.B 2 (act.Signal2 (of_numbers 2 2 0)) land.Full ∷
-    entry_of 1 who.B 2 (act.Signal1 (of_numbers 2 2 0)) land.Full ∷
-    entry_of 1 who.A 1 (act.MsgOpen 4 (message.User 2 4 (codes "T2") 2 true None)) land.Full ∷
-    entry_of 1 who.A 1 (act.MsgBody 4 (message.User 2 4 (codes "T2") 2 true None)) land.Full ∷
-    entry_of 1 who.A 1 (act.MsgRead 4) land.Full ∷
-    entry_of 1 who.A 1 (act.Item 3) land.Full ∷
-    entry_of 1 who.A 1 (act.MsgOpen 3 (message.User 2 3 (codes "T1") 1 true (Some (codes "ANNA")))) land.Full ∷
-    entry_of 1 who.A 1 (act.MsgBody 3 (message.User 2 3 (codes "T1") 1 true (Some (codes "ANNA")))) land.Full ∷
-    entry_of 1 who.A 1 (act.MsgRead 3) land.Full ∷
-    entry_of 1 who.A 1 (act.Item 2) land.Full ∷
-    entry_of 1 who.A 1 (act.MsgOpen 2 (message.User 2 2 (codes "T1") 1 true None)) land.Full ∷
-    entry_of 1 who.A 1 (act.MsgBody 2 (message.User 2 2 (codes "T1") 1 true None)) land.Full ∷
-    entry_of 1 who.A 1 (act.MsgRead 2) land.Full ∷
-    entry_of 1 who.A 1 (act.Item 1) land.Full ∷
-    entry_of 1 who.A 1 (act.MsgOpen 1 (message.End 2 1)) land.Full ∷
-    entry_of 1 who.A 1 (act.MsgBody 1 (message.End 2 1)) land.Full ∷
-    entry_of 1 who.A 1 (act.MsgRead 1) land.Full ∷
-    entry_of 1 who.A 1 (act.MsgOpen 0 (message.Begin 2)) land.Full ∷
-    entry_of 1 who.A 1 (act.MsgBody 0 (message.Begin 2)) land.Full ∷
-    entry_of 1 who.A 1 (act.MsgRead 0) land.Full ∷
-    entry_of 1 who.A 1 (act.Decide (decided.Owner (acting.CatchUp 2))) land.Full ∷
-    entry_of 1 who.A 1 (act.Look2) land.Full ∷
-    entry_of 1 who.A 1 (act.Look1) land.Full ∷
-    entry_of 1 who.A 1 (act.Signal2 (of_numbers 1 2 0)) land.Full ∷
-    entry_of 1 who.A 1 (act.Signal1 (of_numbers 1 2 0)) land.Full ∷
-    entry_of 1 who.Env 0 (act.Tick) land.Full ∷
-    entry_of 0 who.B 2 (act.MsgRead 0) land.Full ∷
-    entry_of 0 who.B 2 (act.Decide (decided.Alternate decision.Nothing)) land.Full ∷
-    entry_of 0 who.B 2 (act.Look2) land.Full ∷
-    entry_of 0 who.B 2 (act.Look1) land.Full ∷
-    entry_of 0 who.B 2 (act.Signal2 (of_numbers 2 1 0)) land.Full ∷
-    entry_of 0 who.B 2 (act.Signal1 (of_numbers 2 1 0)) land.Full ∷
-    entry_of 0 who.B 2 (act.Release) land.Full ∷
-    entry_of 0 who.B 2 (act.CtlWrite (of_parts 2 2 (Some (record { inc = 1; site = site.A; state = state.Running })) (Some (record { inc = 2; site = site.B })) None)) land.Full ∷
-    entry_of 0 who.B 0 (act.CtlRead) land.Full ∷
-    entry_of 0 who.B 0 (act.Reserve) land.Full ∷
-    entry_of 0 who.B 0 (act.StartStandby) land.Full ∷
-    entry_of 0 who.A 1 (act.Restarted) land.Full ∷
-    entry_of 0 who.A 1 (act.LogRead 0) land.Full ∷
-    entry_of 0 who.A 1 (act.Decide (decided.Owner acting.Nothing)) land.Full ∷
-    entry_of 0 who.A 1 (act.Look2) land.Full ∷
-    entry_of 0 who.A 1 (act.Look1) land.Full ∷
-    entry_of 0 who.A 1 (act.Signal2 (of_numbers 1 1 0)) land.Full ∷
-    entry_of 0 who.A 1 (act.Signal1 (of_numbers 1 1 0)) land.Full ∷
-    entry_of 0 who.A 1 (act.Release) land.Full ∷
-    entry_of 0 who.A 1 (act.CtlWrite (of_parts 2 1 (Some (record { inc = 1; site = site.A; state = state.Running })) None None)) land.Full ∷
-    entry_of 0 who.A 0 (act.CtlRead) land.Full ∷
-    entry_of 0 who.A 0 (act.Reserve) land.Full ∷
-    entry_of 0 who.A 0 (act.StartActive) land.Full ∷
-    []
+    users_through
 
 abbrev pub told : Told
 told = record {
-  answers_a = Some answer.Done ∷ Some answer.Done ∷ Some answer.Done ∷ [];
+  answers_a = replicate 3 (Some answer.Done);
   answers_b = [];
   tick = 3;
-  held = (of_parts 2 2 (Some (record { inc = 2; site = site.B; state = state.Running })) None None);
+  held = of_parts 2 2 (owner_of 2 site.B state.Running) None None;
   records = 0;
   done = 0;
   undone = 0;
   file = replicate 16 (Some None);
   table_a = [];
-  table_b = record { term = codes "T1"; class = 1; how = how.Switched; user = None } ∷ record { term = codes "T2"; class = 2; how = how.Acquired; user = None } ∷ [];
+  table_b =
+      record { term = codes "T1"; class = 1; how = how.Switched; user = None } ∷
+      record { term = codes "T2"; class = 2; how = how.Acquired; user = None } ∷ [];
 }

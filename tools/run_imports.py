@@ -1,0 +1,54 @@
+"""The imports of a worked run's spec file."""
+import re
+
+IMPORTS = """std.specs.Prelude.{true, false, List, [], ◌∷◌, ◌++◌, replicate, codes, Some, None}
+xrf_base.specs.declared.site.Site.TheVariants as site
+xrf_base.specs.declared.site.Takeovr.TheVariants as takeovr
+xrf_base.specs.declared.items.Item.TheVariants as items
+xrf_base.specs.declared.items.ItemAnswer.TheVariants as answer
+xrf_base.specs.Values.{slot_of}
+xrf_terms.specs.declared.rows.How.TheVariants as how
+xrf_ctl.specs.declared.parts.Level.TheVariants as level
+xrf_ctl.specs.declared.parts.OwnerState.TheVariants as state
+xrf_ctl.specs.declared.parts.Cause.TheVariants as cause
+xrf_ctl.specs.Control.{of_parts}
+xrf_ctl.specs.Signal.{of_numbers}
+xrf_cavm.specs.declared.decisions.Why.TheVariants as why
+xrf_cavm.specs.declared.decisions.Decision.TheVariants as decision
+xrf_cavm.specs.declared.decisions.Waiting.TheVariants as waiting
+xrf_cavm.specs.declared.decisions.Acting.TheVariants as acting
+xrf_cavm.specs.declared.decisions.Decided.TheVariants as decided
+xrf_cebt.specs.declared.commands.Cebt.TheVariants as cebt
+xrf_cebt.specs.declared.replies.CebtReply.TheVariants as reply
+xrf_exit.specs.declared.ExitAnswer.TheVariants as exit
+xrf_msg.specs.declared.messages.Message.TheVariants as message
+xrf_logrec.specs.declared.records.LogRec.TheVariants as rec
+xrf_history.specs.declared.want.EndWhy.TheVariants as end
+xrf_forms.specs.declared.choice.Choice.{Choice}
+xrf_forms.specs.declared.choice.Choice.TheVariants as choice
+xrf_forms.specs.declared.choice.Landing.TheVariants as landing
+xrf_trace.specs.declared.entry.Act.TheVariants as act
+xrf_trace.specs.declared.entry.Entry.{Entry}
+xrf_trace.specs.declared.entry.Land.TheVariants as land
+xrf_trace.specs.declared.entry.Who.TheVariants as who
+xrf_trace.specs.Scenario.{Scen}
+xrf_examples.specs.Making.{Told, entry_of, owner_of, alt_of, taking_of, unit_of}"""
+
+
+def used(text, beginnings):
+    """The lines of the imports that a text needs, of the definitions and of the beginnings."""
+    text = re.sub(r'"(\\.|[^"\\])*"', "", text)
+    words = set(re.findall(r"[\w.]+", text)) | {f"◌{sign}◌" for sign in ("∷", "++") if f" {sign}" in text} | {"[]"} & set(re.findall(r"\[\]", text))
+    paths = {word.split(".")[0] for word in words if "." in word}
+    lines = []
+    for line in IMPORTS.split("\n"):
+        alias, names = re.search(r" as (\w+)$", line), re.search(r"\{(.*)\}$", line)
+        kept = [name for name in names[1].split(", ") if name in words] if names else []
+        if (alias and alias[1] in paths) or kept:
+            lines.append(line if alias else line[: names.start()] + "{" + ", ".join(kept) + "}")
+    for file in sorted({beginning.file for beginning in beginnings}):
+        names = [name for b in reversed(beginnings) if b.file == file for name in (b.name, f"to_{b.name}")]
+        kept = [name for name in names if name in words]
+        if kept:
+            lines.append(f"xrf_examples.specs.{file}.{{{', '.join(kept)}}}")
+    return "\n".join(f"use Rattle.{line}" for line in lines)

@@ -8,7 +8,7 @@ use Rattle.xrf_history.specs.declared.answer.Answer.{Answer}
 use Rattle.xrf_history.specs.declared.answer.Answer.TheVariants as answer
 use Rattle.xrf_history.specs.Events.{Event}
 use Rattle.xrf_history.specs.Holding.{is_owner, is_alternate, is_tracking}
-use Rattle.xrf_history.specs.Reserving.{sign_off_due, leaving, is_starting}
+use Rattle.xrf_history.specs.Reserving.{sign_off_due, is_leaving, is_starting}
 use Rattle.xrf_history.specs.Notices.{notice}
 use Rattle.xrf_history.specs.Deciding.{is_asked, has_go}
 use Rattle.xrf_history.specs.Next.{next}
@@ -20,11 +20,11 @@ may_abend h = is_owner h && is_none (notice h) && is_none (sign_off_due h)
 
 -- REPLY: it is a tracking alternate, asked, without GO, and not leaving or starting
 abbrev pub may_reply : Settings → List Event → Bool
-may_reply p h = is_tracking h && is_asked p h && not (has_go p h) && is_none (leaving h) && not (is_starting h)
+may_reply p h = is_tracking h && is_asked p h && not (has_go p h) && not (is_leaving h) && not (is_starting h)
 
 -- CEBT: it is an alternate, tracking or waiting, and not leaving
 abbrev pub may_command : List Event → Bool
-may_command h = is_alternate h && is_none (leaving h)
+may_command h = is_alternate h && not (is_leaving h)
 
 -- EXIT: a notice is pending, and the answer is allowed for it
 abbrev pub exit_allowed : Option Notice → ExitAnswer → Bool

@@ -73,7 +73,7 @@ fits p h _ _ = false
 abbrev pub Fits : Settings → List Event → Answer → Type 0
 Fits p h a = IsTrue (fits p h (next p h) a)
 
--- the slot or record of a read
+-- the slot or record of a read; of other acts it is never asked
 abbrev pub place_of : Want → ℕ
 place_of (want.MsgRead place) = place
 place_of (want.LogLook place) = place
@@ -86,7 +86,7 @@ abbrev pub gate_event : Want → ℕ → Event
 gate_event (want.KpRead place) gate = KeyLooked place gate
 gate_event w gate = LogLooked (place_of w) gate
 
--- the event of an act that is made; one that hands more has an answer of its own
+-- the event of an act that is made; of one that hands more it is never asked, since that has an answer of its own
 abbrev pub made : Want → Event
 made want.Reserve = Reserved
 made (want.CtlWrite written) = ControlWritten written

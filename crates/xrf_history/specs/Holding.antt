@@ -28,8 +28,8 @@ is_owner (ControlWritten written ∷ h) = is_owner h || names_owner written (num
 is_owner (_ ∷ h) = is_owner h
 
 -- it is an owner that was an alternate, and was let through
-abbrev pub is_through : List Event → Bool
-is_through h = is_owner h && not (starts_active h)
+abbrev pub is_let_through : List Event → Bool
+is_let_through h = is_owner h && not (starts_active h)
 
 -- it is an alternate: it holds an incarnation and is no owner
 abbrev pub is_alternate : List Event → Bool

@@ -13,7 +13,7 @@ use Rattle.xrf_exit.specs.declared.ExitAnswer.TheVariants as exit
 use Rattle.xrf_history.specs.declared.settings.Settings.{Settings}
 use Rattle.xrf_history.specs.Events.{Event, Looked1, Looked2, Replied, Commanded, Exited, DecisionMade}
 
--- the record of the last LOOK1
+-- the record of the last LOOK1; before the first it is never asked
 abbrev pub record_seen : List Event → ControlRecord
 record_seen [] = empty
 record_seen (Looked1 held signal ∷ h) = held
@@ -44,19 +44,19 @@ abbrev pub told_of_exit : ExitAnswer → ℕ → List Told → List Told
 told_of_exit exit.Keep at told = Reset at ∷ told
 told_of_exit _ at told = told
 
-abbrev pub told : List Event → List Told
-told [] = []
-told (Looked2 signal at ∷ h) = Looked (signal_seen h, signal) at ∷ told h
-told (Replied go at ∷ h) = told_of_reply go at (told h)
-told (Commanded command at ∷ h) = told_of_command command at (told h)
-told (DecisionMade known at decision ∷ h) = told_of_decision decision at (told h)
-told (Exited answer at ∷ h) = told_of_exit answer at (told h)
-told (_ ∷ h) = told h
+abbrev pub told_to_watch : List Event → List Told
+told_to_watch [] = []
+told_to_watch (Looked2 signal at ∷ h) = Looked (signal_seen h, signal) at ∷ told_to_watch h
+told_to_watch (Replied go at ∷ h) = told_of_reply go at (told_to_watch h)
+told_to_watch (Commanded command at ∷ h) = told_of_command command at (told_to_watch h)
+told_to_watch (DecisionMade known at decision ∷ h) = told_of_decision decision at (told_to_watch h)
+told_to_watch (Exited answer at ∷ h) = told_of_exit answer at (told_to_watch h)
+told_to_watch (_ ∷ h) = told_to_watch h
 
 -- The tick of the last change: the latest of the ticks of the first LOOK2, of each LOOK2 whose look differs
 -- from the look before, and of what counts as a change.
 abbrev pub change : List Event → ℕ
-change h = latest 0 (changes (told h))
+change h = latest 0 (changes (told_to_watch h))
 
 -- lost: the tick of a DECIDE less that of the last change is at least ADI
 abbrev pub lost_at : Settings → List Event → ℕ → Bool

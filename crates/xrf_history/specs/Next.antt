@@ -15,7 +15,7 @@ use Rattle.xrf_history.specs.declared.want.Want.TheVariants as want
 use Rattle.xrf_history.specs.declared.want.EndWhy.{EndWhy}
 use Rattle.xrf_history.specs.Events.{Event, StartedActive, StartedStandby, Ticked, Abended, Replied, Commanded, Exited, Reserved, ControlRead, ControlWritten, Released, Signalled1, Signalled2, Looked1, Looked2, MessageRead, MessageClosed, MessageBodied, LogLooked, LogClosed, LogBodied, LogOpened, KeyLooked, KeyClosed, KeyBodied, RecordRead, RecordUndone, Given}
 use Rattle.xrf_history.specs.Holding.{number, is_restarted}
-use Rattle.xrf_history.specs.Reserving.{purpose, record_read, known_read, record_for, end_for}
+use Rattle.xrf_history.specs.Reserving.{purpose, record_read, known_read, record_by_purpose, end_by_purpose}
 use Rattle.xrf_history.specs.Notices.{epoch_number}
 use Rattle.xrf_history.specs.Restarting.{backouts_left}
 use Rattle.xrf_history.specs.Working.{last_plan, rolled_left, next_keypoint}
@@ -27,22 +27,28 @@ abbrev pub write_next : Option ControlRecord → Want
 write_next (Some written) = want.CtlWrite written
 write_next None = want.Release
 
+abbrev pub record_for : Settings → List Event → Option ControlRecord
+record_for p h = record_by_purpose p (purpose h) (number h) (epoch_number h) (record_read h) (known_read h)
+
 abbrev pub after_control_read : Settings → List Event → Want
-after_control_read p h = write_next (record_for p (purpose h) (number h) (epoch_number h) (record_read h) (known_read h))
+after_control_read p h = write_next (record_for p h)
 
 abbrev pub end_next : Option EndWhy → Option Want
 end_next (Some reason) = Some (want.Ended reason)
 end_next None = None
 
+abbrev pub end_for : Settings → List Event → Option EndWhy
+end_for p h = end_by_purpose p (purpose h) (number h) (record_read h) (known_read h)
+
 abbrev pub after_release : Settings → List Event → Option Want
-after_release p h = end_next (end_for p (purpose h) (number h) (record_read h) (known_read h))
+after_release p h = end_next (end_for p h)
 
 -- A slot is closed before it is written over exactly where its gate is open. What a read of its gate, and
 -- the close, is followed by:
 abbrev pub after_gate : ℕ → (close body : Want) → Want
 after_gate gate close body = elim (gate == OPEN) [ true ↦ close | false ↦ body ]
 
--- the gate of a slot of 64 bytes
+-- the gate of a slot of 64 bytes; that of no bytes is never asked
 abbrev pub gate_of : List ℕ → ℕ
 gate_of [] = 0
 gate_of (gate ∷ body) = gate

@@ -1,5 +1,5 @@
 -- What makes a job reserve the control data set, what it writes there, and how it goes on from there.
-use Rattle.std.specs.Prelude.{ℕ, Bool, true, false, ◌&&◌, ◌||◌, not, is_none, if◌then◌else◌, List, [], ◌∷◌, Option, Some, None}
+use Rattle.std.specs.Prelude.{ℕ, Bool, true, false, ◌&&◌, ◌||◌, not, is_some, is_none, if◌then◌else◌, List, [], ◌∷◌, Option, Some, None}
 use Rattle.xrf_base.specs.declared.items.Item.{Item}
 use Rattle.xrf_base.specs.declared.items.Item.TheVariants as items
 use Rattle.xrf_ctl.specs.declared.parts.OwnerState.{OwnerState}
@@ -35,7 +35,7 @@ state_by_item items.Shutdown = Some OffNormal
 state_by_item items.ShutdownTakeover = Some OffTakeover
 state_by_item _ = None
 
--- what came first
+-- the first of two, and the second where it is none
 abbrev pub or_else : {X : Type 0} → Option X → Option X → Option X
 or_else (Some first) later = Some first
 or_else None later = later
@@ -113,7 +113,7 @@ abbrev pub end_in : Decided → Option EndWhy
 end_in (Alternate (decision.Leave w)) = Some (end_by w)
 end_in _ = None
 
--- it leaves by a decision, or by a failed MSGREAD of an alternate
+-- why it leaves, if it does: by a decision, or by a failed MSGREAD of an alternate
 abbrev pub leaves : List Event → Option EndWhy
 leaves [] = None
 leaves (DecisionMade known at decision ∷ h) = end_in decision
@@ -147,13 +147,13 @@ purpose_now h =
       | true ↦ elim (is_owner h) [ true ↦ purpose_of_owner (sign_off_due h) | false ↦ purpose_of_alternate (leaves h) (start_due h) ]
     ]
 
--- what the last RESERVE was made for
+-- what the last RESERVE was made for; before the first it is never asked
 abbrev pub purpose : List Event → Purpose
 purpose [] = SignOnActive
 purpose (Reserved ∷ h) = purpose_now h
 purpose (_ ∷ h) = purpose h
 
--- the record of the last CTLREAD, and what of it is confirmed
+-- the record of the last CTLREAD, and what of it is confirmed; before the first neither is ever asked
 abbrev pub record_read : List Event → ControlRecord
 record_read [] = empty
 record_read (ControlRead held known ∷ h) = held
@@ -174,14 +174,14 @@ dropped (dropping.Write written) = Some written
 dropped _ = None
 
 -- what a job of this incarnation and this epoch writes for a purpose, by what it read
-abbrev pub record_for : Settings → Purpose → (me : ℕ) → (epoch : ℕ) → ControlRecord → Known → Option ControlRecord
-record_for p SignOnActive me epoch held known = granted (grant_active held p.site known p.level)
-record_for p SignOnStandby me epoch held known = granted (grant_standby held p.site known p.level)
-record_for p (SignOff state) me epoch held known = sign_off held me state
-record_for p DropAlternate me epoch held known = dropped (drop_alternate held epoch)
-record_for p (Leave w) me epoch held known = leave held me
-record_for p (StartTakeover cause) me epoch held known = or_else (start_takeover held me cause) (leave held me)
-record_for p GoThrough me epoch held known = let_through held me known p.level
+abbrev pub record_by_purpose : Settings → Purpose → (me : ℕ) → (epoch : ℕ) → ControlRecord → Known → Option ControlRecord
+record_by_purpose p SignOnActive me epoch held known = granted (grant_active held p.site known p.level)
+record_by_purpose p SignOnStandby me epoch held known = granted (grant_standby held p.site known p.level)
+record_by_purpose p (SignOff state) me epoch held known = sign_off held me state
+record_by_purpose p DropAlternate me epoch held known = dropped (drop_alternate held epoch)
+record_by_purpose p (Leave w) me epoch held known = leave held me
+record_by_purpose p (StartTakeover cause) me epoch held known = or_else (start_takeover held me cause) (leave held me)
+record_by_purpose p GoThrough me epoch held known = let_through held me known p.level
 
 -- how a job ends whose sign-on was not granted
 abbrev pub end_of_grant : Grant → Option EndWhy
@@ -196,22 +196,24 @@ abandons (StartTakeover cause) me held = is_none (start_takeover held me cause)
 abandons _ me held = false
 
 -- how a job ends after the RELEASE, if it does
-abbrev pub end_for : Settings → Purpose → (me : ℕ) → ControlRecord → Known → Option EndWhy
-end_for p SignOnActive me held known = end_of_grant (grant_active held p.site known p.level)
-end_for p SignOnStandby me held known = end_of_grant (grant_standby held p.site known p.level)
-end_for p (SignOff state) me held known = Some end.SignedOff
-end_for p DropAlternate me held known = None
-end_for p (Leave w) me held known = Some w
-end_for p (StartTakeover cause) me held known = if is_none (start_takeover held me cause) then Some end.Abandoned else None
-end_for p GoThrough me held known = None
+abbrev pub end_by_purpose : Settings → Purpose → (me : ℕ) → ControlRecord → Known → Option EndWhy
+end_by_purpose p SignOnActive me held known = end_of_grant (grant_active held p.site known p.level)
+end_by_purpose p SignOnStandby me held known = end_of_grant (grant_standby held p.site known p.level)
+end_by_purpose p (SignOff state) me held known = Some end.SignedOff
+end_by_purpose p DropAlternate me held known = None
+end_by_purpose p (Leave w) me held known = Some w
+end_by_purpose p (StartTakeover cause) me held known = if is_none (start_takeover held me cause) then Some end.Abandoned else None
+end_by_purpose p GoThrough me held known = None
 
--- leaving: the last decision is END, or a start was abandoned, or an alternate's MSGREAD failed
-abbrev pub leaving : List Event → Option EndWhy
-leaving [] = None
-leaving (DecisionMade known at decision ∷ h) = end_in decision
-leaving (ActFailed tried at ∷ h) = if is_owner h then leaving h else Some end.MsgError
-leaving (ControlRead held known ∷ h) = if abandons (purpose h) (number h) held then Some end.Abandoned else leaving h
-leaving (_ ∷ h) = leaving h
+-- leaving: it leaves, or the CTLREAD of its start abandoned it
+abbrev pub has_abandoned : List Event → Bool
+has_abandoned [] = false
+has_abandoned (DecisionMade known at decision ∷ h) = false
+has_abandoned (ControlRead held known ∷ h) = abandons (purpose h) (number h) held || has_abandoned h
+has_abandoned (_ ∷ h) = has_abandoned h
+
+abbrev pub is_leaving : List Event → Bool
+is_leaving h = is_some (leaves h) || has_abandoned h
 
 -- starting: from DECIDE START to the CTLWRITE that follows
 abbrev pub is_start : Decided → Bool

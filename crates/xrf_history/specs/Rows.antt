@@ -1,5 +1,5 @@
 -- The rows of the step table: what a job does next at a boundary. The first row that applies gives the act.
-use Rattle.std.specs.Prelude.{ℕ, ◌+◌, ◌%◌, Bool, true, false, ◌&&◌, not, nat_lt, nat_le, List, [], ◌∷◌, Option, Some, None}
+use Rattle.std.specs.Prelude.{ℕ, ◌+◌, ◌%◌, Bool, true, false, ◌&&◌, not, nat_lt, nat_le, if◌then◌else◌, List, [], ◌∷◌, Option, Some, None}
 use Rattle.xrf_base.specs.declared.items.UnitId.{UnitId}
 use Rattle.xrf_ctl.specs.Signal.{SignalRecord, of_numbers}
 use Rattle.xrf_ctl.specs.declared.parts.OwnerState.{OwnerState}
@@ -92,27 +92,18 @@ abbrev pub active_next : Settings → List Event → Option Message → Want
 active_next p h (Some message) = message_next p h message
 active_next p h None = work_next p h
 
--- An owner: the sign-off, the notice, the drop, the round, the messages to drain, the restart, and then the
--- messages, the keypoint and the work.
+-- AN OWNER: the first row that applies.
 abbrev pub owner_works : Settings → List Event → Want
 owner_works p h =
-    elim (drop_due h) [
-      | true ↦ want.Reserve
-      | false ↦
-          elim (round_due h) [
-            | true ↦ want.Signal1 (signal_of h (rounds h + 1))
-            | false ↦
-                elim (is_draining h) [
-                  | true ↦ want.MsgRead (reading_place p h)
-                  | false ↦
-                      elim (is_restarted h) [ false ↦ restart_next p h | true ↦ active_next p h (message_due p h) ]
-                ]
-          ]
-    ]
+    if drop_due h then want.Reserve  -- the drop of the alternate
+    else (if round_due h then want.Signal1 (signal_of h (rounds h + 1))  -- a round
+    else (if is_draining h then want.MsgRead (reading_place p h)  -- the messages that are left to take
+    else (if is_restarted h then active_next p h (message_due p h)  -- messages to send, keypoints, items
+    else restart_next p h)))  -- the restart
 
 abbrev pub owner_row : Settings → List Event → Option OwnerState → Option Notice → Want
-owner_row p h (Some state) pending = want.Reserve
-owner_row p h None (Some told) = want.Exit told
+owner_row p h (Some state) pending = want.Reserve  -- the sign-off
+owner_row p h None (Some told) = want.Exit told  -- a notice
 owner_row p h None None = owner_works p h
 
 -- reading is due where the last decision is NOTHING, ASK or WAIT, and no MSGREAD after it gave none
@@ -135,35 +126,31 @@ lines_issued [] = 0
 lines_issued (LineIssued line ∷ h) = lines_issued h + 1
 lines_issued (_ ∷ h) = lines_issued h
 
--- An alternate: the lines of its command list once the takeover is started, its end, the start of the
--- takeover, the through, the round, and the messages to read.
+-- AN ALTERNATE: the first row that applies.
 abbrev pub alternate_tracks : Settings → List Event → Want
 alternate_tracks p h =
-    elim (through_due h) [
-      | true ↦ want.Reserve
-      | false ↦
-          elim (round_due h) [
-            | true ↦ want.Signal1 (signal_of h (rounds h + 1))
-            | false ↦
-                elim (reading_due h) [ true ↦ want.MsgRead (reading_place p h) | false ↦ want.Nothing ]
-          ]
-    ]
+    if through_due h then want.Reserve  -- the through
+    else (if round_due h then want.Signal1 (signal_of h (rounds h + 1))  -- a round
+    else (if reading_due h then want.MsgRead (reading_place p h)  -- messages to take
+    else want.Nothing))
 
 abbrev pub alternate_starts : Settings → List Event → Option Cause → Want
-alternate_starts p h (Some cause) = want.Reserve
+alternate_starts p h (Some cause) = want.Reserve  -- the start of the takeover
 alternate_starts p h None = alternate_tracks p h
 
 abbrev pub alternate_row : Settings → List Event → Option EndWhy → Want
-alternate_row p h (Some end.Dropped) = want.Ended end.Dropped
-alternate_row p h (Some reason) = want.Reserve
+alternate_row p h (Some end.Dropped) = want.Ended end.Dropped  -- the end of one that was dropped
+alternate_row p h (Some reason) = want.Reserve  -- its leave
 alternate_row p h None = alternate_starts p h (start_due h)
 
 abbrev pub lines_left : Settings → List Event → Bool
 lines_left p h = is_waiting h && nat_lt (lines_issued h) p.clt_lines
 
 abbrev pub alternate_next : Settings → List Event → Want
-alternate_next p h = elim (lines_left p h) [ true ↦ want.Clt (lines_issued h + 1) | false ↦ alternate_row p h (leaves h) ]
+alternate_next p h =
+    if lines_left p h then want.Clt (lines_issued h + 1)  -- the command list, once the takeover is started
+    else alternate_row p h (leaves h)
 
 -- the act at a boundary
 abbrev pub boundary : Settings → List Event → Want
-boundary p h = elim (is_owner h) [ true ↦ owner_row p h (sign_off_due h) (notice h) | false ↦ alternate_next p h ]
+boundary p h = if is_owner h then owner_row p h (sign_off_due h) (notice h) else alternate_next p h

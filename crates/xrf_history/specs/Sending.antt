@@ -21,7 +21,7 @@ use Rattle.xrf_history.specs.declared.settings.Settings.{Settings}
 use Rattle.xrf_history.specs.declared.want.Want.TheVariants as want
 use Rattle.xrf_history.specs.Events.{Event, Looked1, Looked2, DecisionMade, MessageOpened, Given, ActFailed}
 use Rattle.xrf_history.specs.Holding.{is_owner, is_restarted}
-use Rattle.xrf_history.specs.Reserving.{is_on_message}
+use Rattle.xrf_history.specs.Reserving.{or_else, is_on_message}
 use Rattle.xrf_history.specs.Notices.{epoch}
 use Rattle.xrf_history.specs.Terminals.{terminal_answer, table}
 
@@ -114,17 +114,12 @@ message_of_item p n q item h =
     if is_done (terminal_answer item (table p h)).answer
     then change_message p.level n q item (table p h) (terminal_answer item (table p h)).rows else None
 
--- the newer message, if there is one
-abbrev pub newer : Option Message → Option Message → Option Message
-newer (Some message) before = Some message
-newer None before = before
-
 -- after End: the message of the last such item, where no MSGOPEN follows it
 abbrev pub message_of_change : Settings → (epoch number : ℕ) → List Event → Option Message
 message_of_change p n q [] = None
 message_of_change p n q (MessageOpened place message ∷ h) = None
 message_of_change p n q (ActFailed (want.MsgOpen place message) at ∷ h) = None
-message_of_change p n q (Given item ∷ h) = newer (message_of_item p n q item h) (message_of_change p n q h)
+message_of_change p n q (Given item ∷ h) = or_else (message_of_item p n q item h) (message_of_change p n q h)
 message_of_change p n q (_ ∷ h) = message_of_change p n q h
 
 -- before End: Begin first, then the on of each row of class 1 or 2, in the table's order, then End

@@ -4,7 +4,7 @@ use Rattle.xrf_msg.specs.declared.messages.Message.{Message}
 use Rattle.xrf_msg.specs.Numbers.{given}
 use Rattle.xrf_history.specs.declared.want.Want.TheVariants as want
 use Rattle.xrf_history.specs.Events.{Event, MessageRead, ActFailed}
-use Rattle.xrf_history.specs.Holding.{number, is_through, is_restarted}
+use Rattle.xrf_history.specs.Holding.{number, is_let_through, is_restarted}
 
 abbrev pub with_message : Option Message → List Message → List Message
 with_message None messages = messages
@@ -28,10 +28,10 @@ gives slot h = is_some (given slot (number h) (expected h))
 -- drained: a MSGREAD after the through gave none
 abbrev pub is_drained : List Event → Bool
 is_drained [] = false
-is_drained (MessageRead place slot ∷ h) = is_drained h || (is_through h && not (gives slot h))
-is_drained (ActFailed (want.MsgRead place) at ∷ h) = is_drained h || is_through h
+is_drained (MessageRead place slot ∷ h) = is_drained h || (is_let_through h && not (gives slot h))
+is_drained (ActFailed (want.MsgRead place) at ∷ h) = is_drained h || is_let_through h
 is_drained (_ ∷ h) = is_drained h
 
 -- it was let through, and the messages are not drained
 abbrev pub is_draining : List Event → Bool
-is_draining h = is_through h && not (is_drained h)
+is_draining h = is_let_through h && not (is_drained h)

@@ -37,7 +37,7 @@ ledger p (ActFailed (want.LogOpen place rec) at ∷ h) = after_record rec (ledge
 ledger p (ActFailed (want.KpOpen place keypoint) at ∷ h) = keyed (ledger p h) keypoint.start
 ledger p (_ ∷ h) = ledger p h
 
--- what the item taken last makes the job do
+-- what the item taken last makes the job do; before the first it is never asked
 abbrev pub last_plan : Settings → List Event → Plan
 last_plan p [] = plans.Answer Done
 last_plan p (Given item ∷ h) = plan_of (ledger p h) item

@@ -17,7 +17,7 @@ use Rattle.xrf_trace.specs.Scenario.{Scen, settings, work, item_at}
 use Rattle.xrf_trace.specs.Words.{now, items_taken}
 use Rattle.xrf_trace.specs.Jobs.{handed, block_event, item_event}
 use Rattle.xrf_trace.specs.Acts.{act_of, next_item}
-use Rattle.xrf_trace.specs.Handing.{answer_of, block_answer, item_answer}
+use Rattle.xrf_trace.specs.Handing.{answer_of, block_answer, item_handed}
 
 -- it is handed the event of the answer, which fits
 abbrev IsAnswered : Scen → List Entry → Site → List Event → Want → Act → Type 0
@@ -41,7 +41,7 @@ next_there items k less none =
     found items k (grind (arith, common_steps)) (subst (λ (n : ℕ). slice_get items n ≡ None) same none)
 
 item-answered : (s : Scen) (t : List Entry) (x : Site) (h : List Event) (item : Option Item) → (item ≡ None → ⊥)
-    → (item_event item ≡ event_by (settings s x) h want.Item (item_answer (now t) item)) × IsTrue (fits (settings s x) h want.Item (item_answer (now t) item))
+    → (item_event item ≡ event_by (settings s x) h want.Item (item_handed (now t) item)) × IsTrue (fits (settings s x) h want.Item (item_handed (now t) item))
 item-answered s t x h (Some item) there = (refl, refl)
 item-answered s t x h None there = absurd (there refl)
 

@@ -7,12 +7,13 @@ use Rattle.xrf_history.specs.Events.{Event}
 use Rattle.xrf_history.specs.Looking.{record_seen}
 use Rattle.xrf_history.specs.Deciding.{cause}
 use Rattle.xrf_history.specs.Next.{next}
+use Rattle.xrf_history.specs.Answers.{may_fail as wanted_may_fail}
 use Rattle.xrf_trace.specs.declared.entry.Entry.{Entry}
 use Rattle.xrf_trace.specs.declared.entry.Act.{Act}
 use Rattle.xrf_trace.specs.declared.entry.Act.TheVariants as act
 use Rattle.xrf_trace.specs.Scenario.{Scen, settings, work}
 use Rattle.xrf_trace.specs.Words.{now, items_taken}
-use Rattle.xrf_trace.specs.Jobs.{hist, known_of}
+use Rattle.xrf_trace.specs.Jobs.{hist, known_of, tried}
 
 -- the next item of a site, where its work list has more items than it has taken
 abbrev pub next_item : Scen → List Entry → Site → Option Act
@@ -88,7 +89,11 @@ is_control_write _ = false
 abbrev pub is_write : Act → Bool
 is_write a = is_control_write a || is_signal a || is_some (torn_size a)
 
--- a read that may fail
+-- the acts that may fail
+abbrev pub may_fail : Act → Bool
+may_fail a = wanted_may_fail (tried a)
+
+-- among them the reads
 abbrev pub is_failing_read : Act → Bool
 is_failing_read (act.MsgRead k) = true
 is_failing_read (act.LogRead b) = true
@@ -96,10 +101,6 @@ is_failing_read (act.LogLook p) = true
 is_failing_read (act.KpRead k) = true
 is_failing_read (act.FileRead k) = true
 is_failing_read _ = false
-
--- the acts that may fail
-abbrev pub may_fail : Act → Bool
-may_fail a = is_failing_read a || is_some (torn_size a)
 
 -- an entry that is an act of its job: no choice that reaches the job, and no stop without an act
 abbrev pub is_act : Act → Bool

@@ -20,8 +20,8 @@ use Rattle.xrf_trace.specs.Words.{now, who_at}
 use Rattle.xrf_trace.specs.Jobs.{hist}
 use Rattle.xrf_trace.specs.Acts.{next_act, is_write}
 
--- The incarnation of an entry: that which the job holds, and 0 where it holds none. The CTLWRITE that grants
--- it carries the new number already, whatever of it lands.
+-- The incarnation of an entry: that which the job holds, and 0 where it holds none or no job is there. The CTLWRITE
+-- that grants it carries the new number already, whatever of it lands.
 abbrev pub inc_of_act : Act → List Event → ℕ
 inc_of_act (act.CtlWrite written) h = if is_granted h then number h else written.last
 inc_of_act _ h = number h

@@ -30,7 +30,7 @@ HasFormatOne t h _ = Unit {0}
 abbrev pub MeetsFormat : Scen → List Entry → Entry → Type 0
 MeetsFormat s t e = AtSite s t e.who (λ x h. Where (is_one (settings s x).level) (HasFormatOne t h e.act))
 
--- the level of the site of an entry
+-- the level of the site of an entry; of one that is of none it is never asked
 abbrev pub level_of : Scen → Who → Level
 level_of s who.A = (settings s site.A).level
 level_of s who.B = (settings s site.B).level

@@ -22,9 +22,9 @@ block_answer s t b true = answer.LogBlock (log_block s t b)
 block_answer s t b false = answer.Anchored (log_block s t b) (key_slots t)
 
 -- the item, while one is left
-abbrev pub item_answer : (at : ℕ) → Option Item → Answer
-item_answer at (Some item) = answer.Item item
-item_answer at None = answer.Tick at
+abbrev pub item_handed : (at : ℕ) → Option Item → Answer
+item_handed at (Some item) = answer.Item item
+item_handed at None = answer.Tick at
 
 -- the answer of an act, where it is made in full
 abbrev pub answer_of : Scen → List Entry → Site → List Event → Want → Answer
@@ -37,5 +37,5 @@ answer_of s t x h (want.LogRead b) = block_answer s t b (has_read_block h)
 answer_of s t x h (want.LogLook p) = answer.Gate (log_slot s t (p % s.limits.log)).gate
 answer_of s t x h (want.KpRead k) = answer.Gate (key_slot t k).gate
 answer_of s t x h (want.FileRead k) = answer.FileSlot (image s t k)
-answer_of s t x h want.Item = item_answer (now t) (item_at s x (items_taken t x + 1))
+answer_of s t x h want.Item = item_handed (now t) (item_at s x (items_taken t x + 1))
 answer_of s t x h _ = answer.Done (now t)

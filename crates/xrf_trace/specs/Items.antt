@@ -8,7 +8,6 @@ use Rattle.xrf_base.specs.declared.items.Item.{Item}
 use Rattle.xrf_base.specs.declared.items.Item.TheVariants as items
 use Rattle.xrf_base.specs.declared.items.ItemAnswer.{ItemAnswer}
 use Rattle.xrf_base.specs.declared.items.ItemAnswer.TheVariants.{Done}
-use Rattle.xrf_base.specs.Values.{slot_reading}
 use Rattle.xrf_logrec.specs.declared.records.LogRec.{LogRec}
 use Rattle.xrf_logrec.specs.declared.records.LogRec.TheVariants.{Put, Commit, Backout}
 use Rattle.xrf_logrec.specs.LogRecords.{same_unit}
@@ -20,14 +19,16 @@ use Rattle.xrf_file.specs.Rows.{without_unit}
 use Rattle.xrf_file.specs.Ledger.{Ledger, planned, plan_of}
 use Rattle.xrf_history.specs.Events.{Event}
 use Rattle.xrf_history.specs.Holding.{number, is_restarted}
+use Rattle.xrf_history.specs.Reserving.{or_else}
 use Rattle.xrf_history.specs.Terminals.{terminal_answer, table}
-use Rattle.xrf_history.specs.Working.{answer_of_plan, answer_of_slot, answer_of_record}
+use Rattle.xrf_history.specs.Working.{answer_of_plan, answer_of_read, answer_of_record}
 use Rattle.xrf_trace.specs.declared.entry.Entry.{Entry}
 use Rattle.xrf_trace.specs.declared.entry.Act.{Act}
 use Rattle.xrf_trace.specs.declared.entry.Act.TheVariants as act
 use Rattle.xrf_trace.specs.declared.entry.Land.{Land}
+use Rattle.xrf_trace.specs.declared.entry.Land.TheVariants as land
 use Rattle.xrf_trace.specs.Scenario.{Scen, settings, item_at}
-use Rattle.xrf_trace.specs.Landing.{is_full, is_stop}
+use Rattle.xrf_trace.specs.Landing.{is_in_full}
 use Rattle.xrf_trace.specs.Words.{is_of, items_taken}
 use Rattle.xrf_trace.specs.Devices.{image}
 use Rattle.xrf_trace.specs.Jobs.{hist}
@@ -91,7 +92,10 @@ opened_by s t x (act.LogOpen p rec) o = opened_by_record rec o
 opened_by s t x _ o = o
 
 abbrev pub opened_after : Scen → List Entry → Site → Act → Land → Opened → Opened
-opened_after s t x a l o = elim (is_full l) [ true ↦ opened_by s t x a o | false ↦ elim (is_stop l) [ true ↦ nothing_open | false ↦ o ] ]
+opened_after s t x a land.Full o = opened_by s t x a o
+opened_after s t x a land.Lost o = o
+opened_after s t x a (land.Stop landing) o = nothing_open
+opened_after s t x a (land.Fail landing) o = o
 
 abbrev pub opened : Scen → List Entry → Site → Opened
 opened s [] x = nothing_open
@@ -100,12 +104,12 @@ opened s (e ∷ t) x = elim (is_of e.who x) [ true ↦ opened_after s t x e.act 
 abbrev pub ledger_at : Scen → List Entry → Site → Ledger
 ledger_at s t x = ledger_by s t x (opened s t x)
 
--- what an item makes its job do, if it is taken next
+-- what an item makes its job do, if it is taken next; without an item it is never asked
 abbrev pub plan_at : Scen → List Entry → Site → Option Item → Plan
 plan_at s t x None = plans.Answer Done
 plan_at s t x (Some item) = plan_of (ledger_at s t x) item
 
--- and what the item taken last made it do
+-- and what the item taken last made it do; before the first it is never asked
 abbrev pub plan_after : Scen → List Entry → Site → Act → Plan → Plan
 plan_after s t x (act.Item k) before = plan_at s t x (item_at s x k)
 plan_after s t x _ before = before
@@ -136,11 +140,6 @@ answer_at_item s t x (Some item) =
       | false ↦ answer_of_terminals s x item (hist s t x)
     ]
 
--- a GET is answered by the slot that its FILEREAD was handed
-abbrev pub answer_of_get : Plan → List ℕ → Option ItemAnswer
-answer_of_get (plans.Get rrn) slot = Some (answer_of_slot (slot_reading slot))
-answer_of_get _ slot = None
-
 -- the end of a unit answers its COMMIT or ROLL; in a restart no item is at hand
 abbrev pub is_working : Option (List Event) → Bool
 is_working job = option_map_or is_restarted job false
@@ -149,24 +148,21 @@ abbrev pub answer_of_end : Bool → LogRec → Option ItemAnswer
 answer_of_end true rec = answer_of_record rec
 answer_of_end false rec = None
 
--- what an act that is made in full answers the item taken last
+-- What an act that is made in full answers the item taken last: a GET is answered by the slot that its FILEREAD
+-- was handed.
 abbrev pub answer_by : Scen → List Entry → Site → Act → Option ItemAnswer
 answer_by s t x (act.Item k) = answer_at_item s t x (item_at s x k)
-answer_by s t x (act.FileRead k) = answer_of_get (last_plan s t x) (image s t k)
+answer_by s t x (act.FileRead k) = answer_of_read (last_plan s t x) (image s t k)
 answer_by s t x (act.FileWrite unit k value) = Some Done
 answer_by s t x (act.LogOpen p rec) = answer_of_end (is_working (hist s t x)) rec
 answer_by s t x _ = None
-
-abbrev pub or_before : Option ItemAnswer → Option ItemAnswer → Option ItemAnswer
-or_before (Some given) before = Some given
-or_before None before = before
 
 -- The answer of the item of a number from 1 of a site, and none while it is not answered. An item is answered
 -- at its last act, where that act is neither stopped nor failed.
 abbrev pub answer : Scen → List Entry → Site → ℕ → Option ItemAnswer
 answer s [] x k = None
 answer s (e ∷ t) x k =
-    elim (is_of e.who x && is_full e.land && items_taken (e ∷ t) x == k) [
-      | true ↦ or_before (answer_by s t x e.act) (answer s t x k)
+    elim (is_of e.who x && is_in_full e.land && items_taken (e ∷ t) x == k) [
+      | true ↦ or_else (answer_by s t x e.act) (answer s t x k)
       | false ↦ answer s t x k
     ]

@@ -31,9 +31,9 @@ lands (Stop landing) = is_all landing
 lands (Fail landing) = is_all landing
 
 -- the act was made in full: neither lost, nor stopped, nor failed
-abbrev pub is_full : Land → Bool
-is_full Full = true
-is_full _ = false
+abbrev pub is_in_full : Land → Bool
+is_in_full Full = true
+is_in_full _ = false
 
 -- its region stopped there
 abbrev pub is_stop : Land → Bool

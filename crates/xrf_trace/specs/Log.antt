@@ -31,10 +31,10 @@ abbrev pub is_committed : List LogRec → UnitId → Bool
 is_committed records unit = list_any (same_unit unit) (committed records)
 
 -- the start of the last KPOPEN that landed as 0xc1, and 0 where there is none
-abbrev pub start_after : Act → Land → ℕ → ℕ
-start_after (act.KpOpen k keypoint) land before = if opens land then keypoint.start else before
-start_after _ land before = before
+abbrev pub log_start_after : Act → Land → ℕ → ℕ
+log_start_after (act.KpOpen k keypoint) land before = if opens land then keypoint.start else before
+log_start_after _ land before = before
 
 abbrev pub start : List Entry → ℕ
 start [] = 0
-start (e ∷ t) = start_after e.act e.land (start t)
+start (e ∷ t) = log_start_after e.act e.land (start t)

@@ -19,7 +19,7 @@ use Rattle.xrf_trace.specs.declared.entry.Act.{Act}
 use Rattle.xrf_trace.specs.declared.entry.Act.TheVariants as act
 use Rattle.xrf_trace.specs.declared.entry.Land.{Land}
 use Rattle.xrf_trace.specs.Scenario.{Scen}
-use Rattle.xrf_trace.specs.Landing.{is_full, opens}
+use Rattle.xrf_trace.specs.Landing.{is_in_full, opens}
 use Rattle.xrf_trace.specs.Log.{log, is_committed}
 use Rattle.xrf_trace.specs.Items.{answer_by}
 use Rattle.xrf_trace.specs.AtHand.{item_at_hand, OfItem, open_unit, asked_record, asked_write}
@@ -55,7 +55,7 @@ answers_done _ = false
 
 abbrev pub AnswersMean : Scen → (later : List LogRec) → List Entry → Entry → Site → Type 0
 AnswersMean s later t e x =
-    Where (is_full e.land && answers_done (answer_by s t x e.act)) (OfItem (item_at_hand s (e ∷ t) x) (EndsAs later (open_unit s t x)))
+    Where (is_in_full e.land && answers_done (answer_by s t x e.act)) (OfItem (item_at_hand s (e ∷ t) x) (EndsAs later (open_unit s t x)))
 
 -- nothing is logged, and nothing is put into the file, of a unit that has ended
 abbrev pub IsOfNoEnded : List Entry → Act → Land → Type 0

@@ -32,6 +32,10 @@ def camel(words):
     return "".join(word.capitalize() for word in words.split("_"))
 
 
+def snake(name):
+    return re.sub(r"(?<!^)(?=[A-Z])", "_", name).lower()
+
+
 def wrapped(pieces, indent, width=WIDTH):
     """Pieces with blanks between them, in lines of at most a width where that can be."""
     lines, line = [], ""

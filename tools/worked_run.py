@@ -20,7 +20,7 @@ import run_terms
 from run_document import Document, difference
 from run_entries import Entries
 from run_imports import used
-from run_terms import camel, choice, pieces_of, wrapped
+from run_terms import camel, choice, pieces_of, snake, wrapped
 
 TOP = Path(__file__).parent.parent
 RUNS = TOP / "tests/runs"
@@ -108,14 +108,19 @@ FUNCTION = """
 pub fn {name}()
     ensures runs {{ run {module}.scenario {module}.choices ≡ Ok {module}.trace }}
     ensures told {{ told_of {module}.scenario {module}.trace ≡ {module}.told }}
-{safe}{{}}
+{more}{{}}
 """
-SAFE = "    ensures safe {{ Safe {module}.scenario {module}.trace }}\n"
+SAFE = """    ensures safe {{ Safe {module}.scenario {module}.trace }}
+    ensures keeps {{ Promises {module}.scenario {module}.trace }}
+"""
+# from so many acts on, what is promised is proved part by part, or it is not computed at all
+IN_PARTS, TOO_LONG = 130, 300
 HEAD = """//! Worked runs. Each function says what the run of its choices comes to.
 
 ghost use Rattle.std.specs.Prelude.{◌≡◌, Ok};
 ghost use Rattle.xrf_trace.specs.Runs.{run};
 ghost use Rattle.xrf_trace.specs.Safe.{Safe};
+ghost use Rattle.xrf_trace.specs.Promises.{Promises};
 ghost use Rattle.xrf_examples.specs.Making.{told_of};
 """
 
@@ -124,8 +129,28 @@ def functions(runs):
     text = HEAD + "".join(f"ghost use Rattle.xrf_examples.specs.{camel(name)};\n" for name in runs)
     for run in runs.values():
         module = camel(run.name)
-        text += FUNCTION.format(title=run.title, name=run.name, module=module, safe=SAFE.format(module=module) if len(run.entries) < 300 else "")
+        more = SAFE.format(module=module) if len(run.entries) < TOO_LONG else ""
+        text += FUNCTION.format(title=run.title, name=run.name, module=module, more=more)
     return text
+
+
+PARTS = ("OneOwner", "UnitsAreItems", "ItemsSeeBook", "TerminalsAreTold", "NextIsDue", "StartsAsWritten")
+
+
+def answers(run):
+    """The proof file of a run: `assumption` computes a part, and proves it where nothing is left but equal sides."""
+    head = ["-- Each part computes to nothing, or to equations whose sides are the same."]
+    tail = ["pub returns-clause-safe : goal.returns-clause-safe", "returns-clause-safe c = assumption", ""]
+    tail += ["pub returns-clause-keeps : goal.returns-clause-keeps"]
+    uses, lemmas = [f"use Rattle.xrf_examples.proofs.runs.{run.name}.Goals as goal", ""], []
+    if len(run.entries) < IN_PARTS:
+        return "\n".join([*head, *uses, *tail, "returns-clause-keeps c = assumption", ""])
+    fields = {snake(part): part for part in PARTS}
+    uses = [f"use Rattle.xrf_trace.specs.{part}.{{{part}}}" for part in PARTS] + [f"use Rattle.xrf_examples.specs.{camel(run.name)}.{{scenario, trace}}", *uses]
+    for field, part in fields.items():
+        lemmas += [f"{field} : {part} scenario trace", f"{field} = assumption", ""]
+    record = ["returns-clause-keeps c = record {", *(f"  {field} = {field};" for field in fields), "}", ""]
+    return "\n".join([*head, *uses, *lemmas, *tail, *record])
 
 
 def all_files():
@@ -135,6 +160,7 @@ def all_files():
     for file in {beginning.file for beginning in beginnings}:
         files[CRATE / f"specs/{file}.antt"] = module_of_beginnings(file, beginnings)
     files[CRATE / "src/runs.rt"] = functions(runs)
+    files |= {CRATE / f"proofs/runs/{run.name}/Answers.antt": answers(run) for run in runs.values() if len(run.entries) < TOO_LONG}
     return files
 
 
@@ -163,6 +189,7 @@ def main():
     if args.name:
         print(files[CRATE / f"specs/{camel(args.name)}.antt"], end="")
     for path, text in files.items() if args.write else ():
+        path.parent.mkdir(parents=True, exist_ok=True)
         path.write_text(text)
     return 0
 

@@ -1,5 +1,8 @@
--- Each part computes to nothing, or to an equation whose sides are the same.
+-- Each part computes to nothing, or to equations whose sides are the same.
 use Rattle.xrf_examples.proofs.runs.users_at_a_takeover_are_signed_off_by_force.Goals as goal
 
 pub returns-clause-safe : goal.returns-clause-safe
 returns-clause-safe c = assumption
+
+pub returns-clause-keeps : goal.returns-clause-keeps
+returns-clause-keeps c = assumption

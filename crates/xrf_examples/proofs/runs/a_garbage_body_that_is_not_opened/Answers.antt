@@ -1,0 +1,8 @@
+-- Each part computes to nothing, or to equations whose sides are the same.
+use Rattle.xrf_examples.proofs.runs.a_garbage_body_that_is_not_opened.Goals as goal
+
+pub returns-clause-safe : goal.returns-clause-safe
+returns-clause-safe c = assumption
+
+pub returns-clause-keeps : goal.returns-clause-keeps
+returns-clause-keeps c = assumption

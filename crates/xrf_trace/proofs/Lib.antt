@@ -1,3 +1,4 @@
 pub mod RunLaws
 pub mod BookLaws
 pub mod HandingLaws
+pub mod PromiseLaws

@@ -1,13 +1,17 @@
 -- What holds of every run.
-use Rattle.std.specs.Prelude.{◌≡◌, ◌≤◌, ◌↔◌, IsTrue, List, ◌∷◌, length, take, slice_get, Some, None, IfSome, Ok, Err, IfOk}
+use Rattle.std.specs.Prelude.{◌≡◌, ◌≤◌, ◌↔◌, IsTrue, ℕ, false, ◌&&◌, List, ◌∷◌, ◌++◌, length, take, slice_get, Some, None, IfSome, Ok, Err, IfOk}
 use Rattle.xrf_forms.specs.declared.choice.Choice.{Choice}
 use Rattle.xrf_forms.specs.declared.choice.Choice.TheVariants as choice
 use Rattle.xrf_trace.specs.declared.entry.Entry.{Entry}
 use Rattle.xrf_base.specs.declared.site.Site.{Site}
+use Rattle.xrf_base.specs.declared.site.Site.TheVariants as site
+use Rattle.xrf_base.specs.declared.items.UnitId.{UnitId}
 use Rattle.xrf_history.specs.Events.{Event}
+use Rattle.xrf_history.specs.Working.{item_answer}
 use Rattle.xrf_history.specs.Next.{next}
 use Rattle.xrf_history.specs.Answers.{fits, event}
 use Rattle.xrf_trace.specs.Scenario.{Scen, settings}
+use Rattle.xrf_trace.specs.Landing.{is_in_full}
 use Rattle.xrf_trace.specs.Jobs.{handed}
 use Rattle.xrf_trace.specs.Acts.{act_of}
 use Rattle.xrf_trace.specs.Handing.{answer_of}
@@ -15,8 +19,13 @@ use Rattle.xrf_trace.specs.Words.{now}
 use Rattle.xrf_trace.specs.Refusals.{refusal}
 use Rattle.xrf_trace.specs.Runs.{Refusal, run, IsRun}
 use Rattle.xrf_trace.specs.Journal.{choices_of}
-use Rattle.xrf_trace.specs.Each.{Each}
+use Rattle.xrf_trace.specs.Log.{log, committed}
+use Rattle.xrf_trace.specs.Items.{answer_by}
+use Rattle.xrf_trace.specs.Book.{book, puts, value_of_units}
+use Rattle.xrf_trace.specs.Each.{Each, After, Where, AtSite}
 use Rattle.xrf_trace.specs.FileIsBook.{IsBook, IsBookAt}
+use Rattle.xrf_trace.specs.OneOwner.{OneOwner, has_active}
+use Rattle.xrf_trace.specs.UnitsAreItems.{UnitsAreItems}
 use Rattle.xrf_trace.specs.Safe.{Safe}
 use Rattle.xrf_trace.specs.Promises.{Promises}
 use Rattle.xrf_trace.specs.Ranges.{IsInRanges, most_entries}
@@ -61,7 +70,34 @@ ActsAreAnswered = (s : Scen) (t : List Entry) (x : Site) (h : List Event)
     (handed s t x (now t) h a ≡ event (settings s x) h (answer_of s t x h w))
     × IsTrue (fits (settings s x) h w (answer_of s t x h w)))
 
+-- WHAT THE PROMISES COME TO, for every trace that keeps them.
+-- Of the jobs at the two sites at most one is an active.
+abbrev pub ActivesAreOne : Type 0
+ActivesAreOne = (s : Scen) (t : List Entry) → OneOwner s t → After (λ t. (has_active s t site.A && has_active s t site.B) ≡ false) t
+
+-- The units that are committed stay so, in their order. A later book is the book with the puts of the units that were
+-- committed since, and no others.
+abbrev pub CommittedStay : Type 0
+CommittedStay = (t later : List Entry) → (more : List UnitId) × (committed (log (later ++ t)) ≡ committed (log t) ++ more)
+
+abbrev pub Grows : Scen → List Entry → Entry → Type 0
+Grows s t e =
+    (k : ℕ) → (more : List UnitId) × (committed (log (e ∷ t)) ≡ committed (log t) ++ more)
+    × (book s (e ∷ t) k ≡ value_of_units (puts (e ∷ t)) k more (book s t k))
+
+abbrev pub BooksGrow : Type 0
+BooksGrow = (s : Scen) (t : List Entry) → UnitsAreItems s t → Each (Grows s) t
+
 -- THE HEADLINE, stated here and proved above: of every scenario that keeps its ranges, every run is safe and keeps the
 -- promises.
 abbrev pub RunsAreSafe : Type 0
 RunsAreSafe = (s : Scen) (t : List Entry) → IsInRanges s → IsRun s t → length t ≤ most_entries → Safe s t × Promises s t
+
+-- Stated here and proved above too: an act that is made in full answers the item at hand as its job has it.
+abbrev pub AnswersAlike : Scen → List Entry → Entry → Type 0
+AnswersAlike s t e =
+    Where (is_in_full e.land)
+    (AtSite s t e.who (λ x h. answer_by s t x e.act ≡ item_answer (settings s x) (handed s t x e.tick h e.act ∷ h)))
+
+abbrev pub JobsAnswerAlike : Type 0
+JobsAnswerAlike = (s : Scen) (t : List Entry) → IsInRanges s → IsRun s t → length t ≤ most_entries → Each (AnswersAlike s) t

@@ -1,6 +1,6 @@
 //! Laws of runs.
 
-ghost use Rattle.xrf_trace.specs.Laws.{RunsAreRuns, TicksAreCounted, TickIsAccepted, RefusalsAreFirst, JournalsTell, BooksAreAtEach, ActsAreAnswered};
+ghost use Rattle.xrf_trace.specs.Laws.{RunsAreRuns, TicksAreCounted, TickIsAccepted, RefusalsAreFirst, JournalsTell, BooksAreAtEach, ActsAreAnswered, ActivesAreOne, CommittedStay, BooksGrow};
 
 /// The trace that a list of choices comes to is that of a run, with an entry for each choice. The tick of an
 /// entry is the number of ticks up to and with it.
@@ -29,4 +29,12 @@ pub fn books_are_at_each()
 /// What an act hands a job is an answer that fits it, and the event in the job's history is that of the answer.
 pub fn acts_are_answered()
     ensures { ActsAreAnswered }
+{}
+
+/// What the promises come to: at most one active at every moment; what is committed stays so, and the book grows by
+/// committed units alone.
+pub fn promises_come_to()
+    ensures one { ActivesAreOne }
+    ensures stay { CommittedStay }
+    ensures grow { BooksGrow }
 {}

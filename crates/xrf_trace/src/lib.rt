@@ -7,6 +7,6 @@ mod laws;
 
 pub use entry::{Act, Entry, Land, Refused, Who};
 pub use laws::{
-    acts_are_answered, books_are_at_each, journals_tell_choices, refusals_change_nothing,
-    runs_are_runs,
+    acts_are_answered, books_are_at_each, journals_tell_choices, promises_come_to,
+    refusals_change_nothing, runs_are_runs,
 };

@@ -9,8 +9,7 @@ use Rattle.xrf.specs.declared.refusal.Reason.{Reason}
 use Rattle.xrf.specs.declared.refusal.Reason.TheVariants.{Grammar}
 use Rattle.xrf_forms.specs.declared.reason.Reason.TheVariants.{TooLarge}
 use Rattle.xrf.specs.declared.made.Made.{Made}
-use Rattle.xrf.specs.declared.made.Made.TheVariants.{Document, Refusal}
-use Rattle.xrf.specs.declared.made.Made.TheVariants.{NoMemory as Nothing}
+use Rattle.xrf.specs.declared.made.Made.TheVariants.{Document, Refusal, NoMemory as Nothing}
 use Rattle.xrf.specs.declared.status.Status.{Status}
 use Rattle.xrf.specs.declared.status.Status.TheVariants.{WriteFault, NoMemory}
 

@@ -1,9 +1,9 @@
 -- What one choice makes of a run, and what a document is as an input.
 use Rattle.std.proofs.Common.{◌≡◌, ◌<◌, ◌+◌, ℕ, zero, suc, List, [], ◌∷◌, length, drop, slice_index_or, Result, Ok, Err, refl, sym, ap, ◌∙◌, subst, arith}
-use Rattle.xrf_forms.specs.declared.choice.Choice.{Choice}
+use Rattle.xrf_setup.specs.declared.choice.Choice.{Choice}
 use Rattle.xrf_scenario.specs.Built.{AreAllowed}
 use Rattle.xrf_scenario.specs.Canonical.{numbered_from, at_lines, scenario_lines}
-use Rattle.xrf_scenario.specs.Scenario.{Scen}
+use Rattle.xrf_setup.specs.Scenario.{Scen}
 use Rattle.xrf_scenario.specs.declared.built.Forms.TheVariants.{Built}
 use Rattle.xrf_world.specs.Base.{base_of}
 use Rattle.xrf_world.specs.Runs.{run, run_from, Run, Refusal, Made}

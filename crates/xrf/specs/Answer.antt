@@ -8,8 +8,7 @@ use Rattle.xrf.specs.Words.{is_replay, usage_line}
 use Rattle.xrf.specs.Refusals.{IsRefusal, refusal_line}
 use Rattle.xrf.specs.Made.{IsDocument}
 use Rattle.xrf.specs.declared.made.Made.{Made}
-use Rattle.xrf.specs.declared.made.Made.TheVariants.{Document, Refusal}
-use Rattle.xrf.specs.declared.made.Made.TheVariants.{NoMemory as Nothing}
+use Rattle.xrf.specs.declared.made.Made.TheVariants.{Document, Refusal, NoMemory as Nothing}
 use Rattle.xrf.specs.declared.refusal.Reason.{Reason}
 use Rattle.xrf.specs.declared.status.Status.{Status}
 use Rattle.xrf.specs.declared.status.Status.TheVariants.{Done, Refused, Usage, ReadFault, WriteFault, NoMemory}

@@ -1,6 +1,6 @@
 -- What is made of an input before anything is written.
 use Rattle.std.specs.Prelude.{◌≡◌, ℕ, ◌≤◌, List, length, Result, Ok, Err}
-use Rattle.xrf_scenario.specs.Scenario.{Scen}
+use Rattle.xrf_setup.specs.Scenario.{Scen}
 use Rattle.xrf_scenario.specs.Reading.{Reads}
 use Rattle.xrf_scenario.specs.declared.built.Forms.TheVariants.{Built}
 use Rattle.xrf_scenario.specs.declared.numbered.Numbered.{Numbered}
@@ -8,8 +8,9 @@ use Rattle.xrf_world.specs.declared.entry.Entry.{Entry}
 use Rattle.xrf_world.specs.Base.{base_of}
 use Rattle.xrf_world.specs.Runs.{run, Run}
 use Rattle.xrf_report.specs.Document.{doc}
-use Rattle.xrf.specs.Refusals.{plain, most, IsRefusal}
-use Rattle.xrf_forms.specs.declared.choice.Choice.{Choice}
+use Rattle.xrf_setup.specs.declared.ranges.TheConstants.{INPUT_MOST}
+use Rattle.xrf.specs.Refusals.{plain, IsRefusal}
+use Rattle.xrf_setup.specs.declared.choice.Choice.{Choice}
 use Rattle.xrf.specs.declared.running.Stop.{Stop}
 use Rattle.xrf.specs.declared.made.Made.{Made}
 use Rattle.xrf.specs.declared.made.Made.TheVariants.{Document, Refusal, NoMemory}
@@ -18,7 +19,7 @@ use Rattle.xrf.specs.declared.made.Made.TheVariants.{Document, Refusal, NoMemory
 pub record IsDocument (bytes text : List ℕ) : Type 0 where
   pub scenario : Scen
   pub choices : List Numbered
-  pub size : length bytes ≤ most
+  pub size : length bytes ≤ INPUT_MOST
   pub reads : Reads Built bytes scenario choices
   pub trace : List Entry
   pub is_run : run (base_of scenario) (plain choices) ≡ Ok trace

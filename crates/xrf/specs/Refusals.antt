@@ -1,11 +1,12 @@
 -- Why an input is refused, and at which line.
 use Rattle.std.specs.Prelude.{◌≡◌, ◌⊎◌, ℕ, ◌≤◌, ◌<◌, List, ◌++◌, codes, map, length, slice_get, Some, Err}
 use Rattle.std.specs.Fmt.{decimal}
-use Rattle.xrf_scenario.specs.Scenario.{Scen}
+use Rattle.xrf_setup.specs.Scenario.{Scen}
 use Rattle.xrf_scenario.specs.Reading.{Reads, HasBad}
 use Rattle.xrf_scenario.specs.Canonical.{fed}
 use Rattle.xrf_report.specs.Words.{blank}
-use Rattle.xrf_forms.specs.declared.choice.Choice.{Choice}
+use Rattle.xrf_setup.specs.declared.choice.Choice.{Choice}
+use Rattle.xrf_setup.specs.declared.ranges.TheConstants.{INPUT_MOST}
 use Rattle.xrf_scenario.specs.declared.built.Forms.TheVariants.{Built}
 use Rattle.xrf_scenario.specs.declared.numbered.Numbered.{Numbered}
 use Rattle.xrf_forms.specs.declared.reason.Reason as grammar
@@ -16,10 +17,6 @@ use Rattle.xrf_world.specs.declared.entry.Refused.TheVariants.{NotEnabled}
 use Rattle.xrf_world.specs.Runs.{run}
 use Rattle.xrf.specs.declared.refusal.Reason.{Reason}
 use Rattle.xrf.specs.declared.refusal.Reason.TheVariants.{Grammar, Choosing}
-
--- the most bytes that an input may have
-abbrev pub most : ℕ
-most = 4194304
 
 -- choices without the numbers of their lines
 abbrev pub plain : List Numbered → List Choice
@@ -39,8 +36,8 @@ pub record Stops (bytes : List ℕ) (number : ℕ) (reason : Refused) : Type 0 w
 -- The input is refused at a line for a reason: it is too large, which is said at line 0; or else its
 -- grammar is bad first there; or else the run stops there.
 abbrev pub IsRefusal : List ℕ → ℕ → Reason → Type 0
-IsRefusal bytes number (Grammar reason) = ((most < length bytes) × (number ≡ 0) × (reason ≡ TooLarge)) ⊎ ((length bytes ≤ most) × HasBad Built bytes number reason)
-IsRefusal bytes number (Choosing reason) = (length bytes ≤ most) × Stops bytes number reason
+IsRefusal bytes number (Grammar reason) = ((INPUT_MOST < length bytes) × (number ≡ 0) × (reason ≡ TooLarge)) ⊎ ((length bytes ≤ INPUT_MOST) × HasBad Built bytes number reason)
+IsRefusal bytes number (Choosing reason) = (length bytes ≤ INPUT_MOST) × Stops bytes number reason
 
 abbrev pub grammar_text : grammar.Reason → List ℕ
 grammar_text TooLarge = codes "TOO-LARGE"

@@ -16,6 +16,7 @@ use crate::running::{Stop, make_all};
 use std::alloc::{AllocError, Global};
 use xrf_report::document;
 use xrf_scenario::{Choice, Forms, Numbered, ReadBad, Scenario, read_forms};
+use xrf_setup::ranges::INPUT_MOST;
 use xrf_world::World;
 
 /// What is made of an input.
@@ -50,7 +51,7 @@ fn stopped(numbered: &[Numbered], stop: Stop) -> Made
 fn ran(alloc: Global, scenario: &Scenario, numbered: &[Numbered]) -> Result<Made, AllocError>
     requires choices { AreChoices (plain numbered.now) }
     requires built { IsBuilt scenario.now × AreBuilt (plain numbered.now) }
-    ensures { (bytes : List ℕ) → length bytes ≤ 4194304 → Reads Built bytes scenario.now numbered.now → IfOk result (IsMade bytes) }
+    ensures { (bytes : List ℕ) → length bytes ≤ INPUT_MOST → Reads Built bytes scenario.now numbered.now → IfOk result (IsMade bytes) }
 {
     let choices = plain(alloc, numbered)?;
     let mut world = World::new(alloc, scenario)?;
@@ -61,7 +62,7 @@ fn ran(alloc: Global, scenario: &Scenario, numbered: &[Numbered]) -> Result<Made
 }
 
 fn made_of_text(alloc: Global, text: &[u8]) -> Result<Made, AllocError>
-    requires { length text.now ≤ 4194304 }
+    requires { length text.now ≤ INPUT_MOST }
     ensures { IfOk result (IsMade text.now) }
 {
     match read_forms(alloc, Forms::Built, text) {
@@ -73,7 +74,7 @@ fn made_of_text(alloc: Global, text: &[u8]) -> Result<Made, AllocError>
 
 /// What is made of an input of at most 4,194,304 bytes.
 pub fn made_of(alloc: Global, text: &[u8]) -> Made
-    requires { length text.now ≤ 4194304 }
+    requires { length text.now ≤ INPUT_MOST }
     ensures { IsMade text.now result }
 {
     match made_of_text(alloc, text) {

@@ -4,6 +4,7 @@ ghost use Rattle.std.specs.Prelude.{◌≡◌, ◌≤◌, ◌<◌, [], length, I
 ghost use Rattle.xrf.specs.Made.{RunGives};
 
 use xrf_scenario::Choice;
+use xrf_setup::ranges::CHOICES_MOST;
 use xrf_world::{Refused, World};
 
 /// The choice at which a run stops, by its place from 0, and why.
@@ -16,7 +17,7 @@ pub struct Stop {
 /// Makes the choices in their order, up to the first that is refused.
 pub fn make_all(world: &mut World, choices: &[Choice]) -> Result<(), Stop>
     requires fresh { world.old.trace ≡ [] }
-    requires few { length choices.now ≤ 8192 }
+    requires few { length choices.now ≤ CHOICES_MOST }
     ensures gives { RunGives world.old choices.now result world.new }
     ensures place { IfErr result (λ stop. stop.place < length choices.now) }
 {

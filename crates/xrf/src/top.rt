@@ -11,8 +11,7 @@ use crate::status::Status;
 use std::alloc::Global;
 use xrf_edge::{ReadError, Sink, Source, read_all, write_all};
 use xrf_scenario::Reason as Fault;
-
-const MOST: usize = 4_194_304;
+use xrf_setup::ranges::INPUT_MOST;
 
 const USAGE: &[u8] = b"XRF USAGE replay | run | drive SEED N\n";
 
@@ -63,7 +62,7 @@ fn write_made<K: Sink>(alloc: Global, sink: &mut K, made: Made) -> Status
 fn replay<S: Source, K: Sink>(alloc: Global, source: &mut S, sink: &mut K) -> Status
     ensures { Replayed (record { bytes = S.left source.old; faults = S.faults source.old }) (record { bytes = S.left source.new; faults = S.faults source.new }) (record { bytes = K.held sink.old; faults = K.faults sink.old }) (record { bytes = K.held sink.new; faults = K.faults sink.new }) result }
 {
-    match read_all(alloc, source, MOST) {
+    match read_all(alloc, source, INPUT_MOST) {
         Ok(text) => write_made(alloc, sink, made_of(alloc, &text)),
         Err(ReadError::Fault) => Status::ReadFault,
         Err(ReadError::TooLarge) => refuse(alloc, sink, 0, Reason::Grammar(Fault::TooLarge)),

@@ -13,8 +13,8 @@ use Rattle.xrf_forms.specs.declared.form.Part.{Part}
 use Rattle.xrf_forms.specs.declared.form.Part.TheVariants.{Keyword, Refused, Site, Number, Multiple, Name, Value, Hex, Words}
 use Rattle.xrf_forms.specs.declared.form.Form.{Form}
 use Rattle.xrf_forms.specs.declared.line.Line.{Line}
-use Rattle.xrf_forms.specs.declared.form.Format.{Format}
-use Rattle.xrf_forms.specs.declared.form.Format.TheVariants.{One, Two}
+use Rattle.xrf_setup.specs.declared.format.Format.{Format}
+use Rattle.xrf_setup.specs.declared.format.Format.TheVariants.{One, Two}
 use Rattle.xrf_forms.specs.Fitting.{keyword_of, takes_all, takes, most_agreed, agreed_by, agreed, fits_best, fitting, form_for, wrong, before_wrong, first_fault}
 use Rattle.xrf_forms.specs.Grammar.{IsOfPart, Unless, AreOfForm, IsAmong, Spells, AreOfNone}
 use Rattle.xrf_forms.specs.Keywords.{keyword_text}

@@ -4,7 +4,7 @@ use Rattle.std.proofs.lemmas.List.{take_all, take_more_set, length-set, append-n
 use Rattle.std.proofs.lemmas.Bool.{leb-true, le-leb, lt-leb, eqb-true, and_parts}
 use Rattle.std.specs.List.{list_all}
 use Rattle.xrf_forms.specs.Hex.{is_hex_digit, is_hex, byte_of, bytes_of_hex, torn_of_hex}
-use Rattle.xrf_forms.specs.Torn.{torn_of}
+use Rattle.xrf_setup.specs.Torn.{torn_of}
 use Rattle.xrf_forms.specs.Filling.{one_more, filled, front_of}
 use Rattle.xrf_forms.specs.declared.hex.Filling.{Filling}
 

@@ -13,27 +13,29 @@ use Rattle.xrf_base.specs.declared.items.Item.TheVariants as item
 use Rattle.xrf_exit.specs.declared.ExitAnswer.TheVariants as answer
 use Rattle.xrf_forms.specs.declared.form.Form.{Form}
 use Rattle.xrf_forms.specs.declared.form.Form.TheVariants as form
-use Rattle.xrf_forms.specs.declared.form.Format.{Format}
-use Rattle.xrf_forms.specs.declared.form.Format.TheVariants.{One, Two}
+use Rattle.xrf_setup.specs.declared.format.Format.{Format}
+use Rattle.xrf_setup.specs.declared.format.Format.TheVariants.{One, Two}
 use Rattle.xrf_forms.specs.declared.form.ItemForm.{ItemForm}
 use Rattle.xrf_forms.specs.declared.form.ItemForm.TheVariants as work
 use Rattle.xrf_forms.specs.declared.form.ChoiceForm.{ChoiceForm}
 use Rattle.xrf_forms.specs.declared.form.ChoiceForm.TheVariants as by
-use Rattle.xrf_forms.specs.declared.choice.Landing.{Landing}
-use Rattle.xrf_forms.specs.declared.choice.Landing.TheVariants.{Nothing, All, Torn}
-use Rattle.xrf_forms.specs.declared.choice.Choice.{Choice}
-use Rattle.xrf_forms.specs.declared.choice.Choice.TheVariants as choice
+use Rattle.xrf_setup.specs.declared.choice.Landing.{Landing}
+use Rattle.xrf_setup.specs.declared.choice.Landing.TheVariants.{Nothing, All, Torn}
+use Rattle.xrf_setup.specs.declared.choice.Choice.{Choice}
+use Rattle.xrf_setup.specs.declared.choice.Choice.TheVariants as choice
 use Rattle.xrf_forms.specs.declared.line.Line.{Line}
 use Rattle.xrf_forms.specs.declared.line.Line.TheVariants as line
 use Rattle.xrf_forms.specs.Grammar.{IsNumber, AreOfForm, IsAmong, Spells}
 use Rattle.xrf_forms.specs.Hex.{is_hex, is_hex_digit, digit_value, bytes_of_hex, torn_of_hex}
-use Rattle.xrf_forms.specs.LineText.{IsIn, IsItemOf, IsSetting, IsChoosing, has_users, is_planned, is_timed}
+use Rattle.xrf_setup.specs.Ranges.{IsIn}
+use Rattle.xrf_setup.specs.Items.{IsItemOf, has_users, HasItem, IsClass}
+use Rattle.xrf_forms.specs.LineText.{IsSetting, IsChoosing, is_timed}
+use Rattle.xrf_setup.specs.Choices.{is_planned, HasLine, IsTorn}
 use Rattle.xrf_forms.specs.Numbers.{number_of}
 use Rattle.xrf_forms.specs.Operands.{site_of, class_of, is_multiple_of}
 use Rattle.xrf_forms.specs.Places.{behind, second, third, fourth, fifth, sixth}
 use Rattle.xrf_forms.specs.Reading.{line_of}
 use Rattle.xrf_forms.specs.Saying.{site_said, choice_said, counted, once_said, item_said, work_said, plan_said, said}
-use Rattle.xrf_forms.specs.Spelling.{HasLine, HasItem, IsClass, IsTorn}
 use Rattle.xrf_forms.specs.Table.{parts_of, planned_parts, choice_parts, is_of_two, settings_of, choices_table}
 use Rattle.xrf_forms.proofs.Filling.{most-bytes, least-bytes}
 use Rattle.xrf_forms.proofs.FormLaws.{line-found}

@@ -3,17 +3,18 @@ use Rattle.std.proofs.Common.{◌≡◌, inl, inr, arith, ℕ, true, List, [], �
 use Rattle.xrf_base.specs.Names.{IsName}
 use Rattle.xrf_text.specs.Text.{words}
 use Rattle.xrf_text.proofs.Joined.{words-joined}
-use Rattle.xrf_forms.specs.declared.choice.Choice.{Choice}
+use Rattle.xrf_setup.specs.declared.choice.Choice.{Choice}
 use Rattle.xrf_forms.specs.declared.form.Form.{Form}
 use Rattle.xrf_forms.specs.declared.form.Form.TheVariants.{CltCancel, CltCommand, CltWto}
-use Rattle.xrf_forms.specs.declared.form.Format.{Format}
-use Rattle.xrf_forms.specs.declared.form.Format.TheVariants.{One, Two}
+use Rattle.xrf_setup.specs.declared.format.Format.{Format}
+use Rattle.xrf_setup.specs.declared.format.Format.TheVariants.{One, Two}
 use Rattle.xrf_forms.specs.declared.line.Line.{Line}
 use Rattle.xrf_forms.specs.declared.line.Line.TheVariants.{Clt, Once}
 use Rattle.xrf_forms.specs.LineText.{IsSetting, IsChoosing, IsCommand, header_text, line_text}
 use Rattle.xrf_forms.specs.Plain.{IsPlain}
 use Rattle.xrf_forms.specs.Reading.{header_of, line_of}
-use Rattle.xrf_forms.specs.Spelling.{HasLine, choice_text}
+use Rattle.xrf_setup.specs.Choices.{HasLine}
+use Rattle.xrf_forms.specs.Spelling.{choice_text}
 use Rattle.xrf_forms.specs.Table.{choices_table, parts_of, settings_of}
 use Rattle.xrf_forms.proofs.ApartLaws.{are_apart, choices-apart, line-again, settings-apart}
 use Rattle.xrf_forms.proofs.Listed.{in_both}

@@ -3,8 +3,8 @@ use Rattle.std.proofs.Common.{◌≡◌, inl, inr, ℕ, zero, suc, Bool, true, f
 use Rattle.xrf_forms.specs.declared.form.ChoiceForm.{ChoiceForm}
 use Rattle.xrf_forms.specs.declared.form.Form.{Form}
 use Rattle.xrf_forms.specs.declared.form.Form.TheVariants as form
-use Rattle.xrf_forms.specs.declared.form.Format.{Format}
-use Rattle.xrf_forms.specs.declared.form.Format.TheVariants.{One, Two}
+use Rattle.xrf_setup.specs.declared.format.Format.{Format}
+use Rattle.xrf_setup.specs.declared.format.Format.TheVariants.{One, Two}
 use Rattle.xrf_forms.specs.Grammar.{IsAmong}
 use Rattle.xrf_forms.specs.Table.{choice_parts, planned_parts, settings_of_two, is_of_two, settings_of, choices_table}
 use Rattle.xrf_forms.proofs.PlainLaws.{is_short}

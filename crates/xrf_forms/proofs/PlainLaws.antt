@@ -21,7 +21,7 @@ use Rattle.xrf_forms.specs.Fitting.{takes_all}
 use Rattle.xrf_forms.specs.Grammar.{IsOfPart, Unless, AreOfForm}
 use Rattle.xrf_forms.specs.Hex.{is_hex, is_hex_digit}
 use Rattle.xrf_forms.specs.Keywords.{keyword_text}
-use Rattle.xrf_forms.specs.LineText.{IsIn}
+use Rattle.xrf_setup.specs.Ranges.{IsIn}
 use Rattle.xrf_forms.specs.Numbers.{number_of, is_number, value_behind}
 use Rattle.xrf_forms.specs.Operands.{site_of}
 use Rattle.xrf_forms.specs.Plain.{IsPlain}

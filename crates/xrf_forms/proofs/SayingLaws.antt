@@ -20,7 +20,7 @@ use Rattle.xrf_forms.specs.declared.form.ChoiceForm.{ChoiceForm}
 use Rattle.xrf_forms.specs.declared.form.ChoiceForm.TheVariants as by
 use Rattle.xrf_forms.specs.declared.form.Form.{Form}
 use Rattle.xrf_forms.specs.declared.form.Form.TheVariants as form
-use Rattle.xrf_forms.specs.declared.choice.Choice.{Choice}
+use Rattle.xrf_setup.specs.declared.choice.Choice.{Choice}
 use Rattle.xrf_forms.specs.Fitting.{takes_all}
 use Rattle.xrf_forms.specs.Grammar.{IsNumber, IsOfPart, Unless, AreOfForm}
 use Rattle.xrf_forms.specs.Hex.{is_hex, torn_of_hex}

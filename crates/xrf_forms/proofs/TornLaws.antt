@@ -3,7 +3,8 @@ use Rattle.std.proofs.Common.{◌≡◌, ◌<◌, ◌+◌, ◌/◌, ◌%◌, ◌
 use Rattle.std.specs.List.{AllByRecursion, list_all}
 use Rattle.std.proofs.lemmas.Bool.{le-leb, eqb-true, eqb-false, eq-eqb, and_parts}
 use Rattle.xrf_forms.specs.Hex.{is_hex, is_hex_digit, byte_of, bytes_of_hex, torn_of_hex}
-use Rattle.xrf_forms.specs.Spelling.{hex_digit, hex_text, IsTorn}
+use Rattle.xrf_forms.specs.Spelling.{hex_digit, hex_text}
+use Rattle.xrf_setup.specs.Choices.{IsTorn}
 
 -- a test of all numbers below one
 abbrev pub all_below : (ℕ → Bool) → ℕ → Bool

@@ -12,17 +12,17 @@ use Rattle.xrf_forms.specs.declared.form.Part.{Part}
 use Rattle.xrf_forms.specs.declared.form.Part.TheVariants.{Keyword as Key}
 use Rattle.xrf_forms.specs.declared.form.ChoiceForm.{ChoiceForm}
 use Rattle.xrf_forms.specs.declared.form.ChoiceForm.TheVariants as by
-use Rattle.xrf_forms.specs.declared.choice.Landing.TheVariants.{Nothing, All, Torn}
-use Rattle.xrf_forms.specs.declared.choice.Choice.{Choice}
-use Rattle.xrf_forms.specs.declared.choice.Choice.TheVariants as choice
+use Rattle.xrf_setup.specs.declared.choice.Landing.TheVariants.{Nothing, All, Torn}
+use Rattle.xrf_setup.specs.declared.choice.Choice.{Choice}
+use Rattle.xrf_setup.specs.declared.choice.Choice.TheVariants as choice
 use Rattle.xrf_forms.specs.declared.line.Line.TheVariants.{Once}
 use Rattle.xrf_forms.specs.Grammar.{IsNumber, AreOfForm}
-use Rattle.xrf_forms.specs.LineText.{IsIn, is_planned}
+use Rattle.xrf_setup.specs.Ranges.{IsIn}
+use Rattle.xrf_setup.specs.Choices.{is_planned, HasLine}
 use Rattle.xrf_forms.specs.Operands.{site_of}
 use Rattle.xrf_forms.specs.Saying.{choice_said, counted}
-use Rattle.xrf_forms.specs.Spelling.{site_word, choice_text, hex_text, HasLine}
-use Rattle.xrf_forms.specs.Table.{choice_parts}
-use Rattle.xrf_forms.specs.Table.{is_planned as is_planned_word}
+use Rattle.xrf_forms.specs.Spelling.{site_word, choice_text, hex_text}
+use Rattle.xrf_forms.specs.Table.{choice_parts, is_planned as is_planned_word}
 use Rattle.xrf_forms.proofs.NumberLaws.{number-of-decimal}
 use Rattle.xrf_forms.proofs.TornLaws.{is-hex, torn-again}
 

@@ -9,13 +9,13 @@ use Rattle.xrf_base.specs.declared.items.Item.{Item}
 use Rattle.xrf_base.specs.declared.items.Item.TheVariants as item
 use Rattle.xrf_base.specs.declared.site.Site.{Site}
 use Rattle.xrf_base.specs.declared.site.Takeovr.TheVariants.{Auto, Manual, Command}
-use Rattle.xrf_forms.specs.declared.choice.Choice.{Choice}
-use Rattle.xrf_forms.specs.declared.choice.Choice.TheVariants as choice
+use Rattle.xrf_setup.specs.declared.choice.Choice.{Choice}
+use Rattle.xrf_setup.specs.declared.choice.Choice.TheVariants as choice
 use Rattle.xrf_forms.specs.declared.form.ChoiceForm.TheVariants as by
 use Rattle.xrf_forms.specs.declared.form.Form.{Form}
 use Rattle.xrf_forms.specs.declared.form.Form.TheVariants as table
-use Rattle.xrf_forms.specs.declared.form.Format.{Format}
-use Rattle.xrf_forms.specs.declared.form.Format.TheVariants.{One, Two}
+use Rattle.xrf_setup.specs.declared.format.Format.{Format}
+use Rattle.xrf_setup.specs.declared.format.Format.TheVariants.{One, Two}
 use Rattle.xrf_forms.specs.declared.form.ItemForm.{ItemForm}
 use Rattle.xrf_forms.specs.declared.form.ItemForm.TheVariants as work
 use Rattle.xrf_forms.specs.declared.form.Part.{Part}
@@ -24,10 +24,13 @@ use Rattle.xrf_forms.specs.declared.line.Line.{Line}
 use Rattle.xrf_forms.specs.declared.line.Line.TheVariants.{Applid, Takeovr, Adi, Pdi, Log, Ring, File, Pace, Ticks, Images, Level, Xrfsoff, Record, Clt, Work, Plan, Choices, Once, Times, End}
 use Rattle.xrf_forms.specs.declared.reason.Reason.TheVariants.{BadPlan}
 use Rattle.xrf_forms.specs.Grammar.{AreOfForm, IsAmong}
-use Rattle.xrf_forms.specs.LineText.{IsIn, IsSetting, IsChoosing, IsItemOf, has_users, is_planned, is_timed, line_text}
+use Rattle.xrf_setup.specs.Ranges.{IsIn}
+use Rattle.xrf_forms.specs.LineText.{IsSetting, IsChoosing, is_timed, line_text}
+use Rattle.xrf_setup.specs.Items.{IsItemOf, has_users, HasItem, IsClass}
+use Rattle.xrf_setup.specs.Choices.{is_planned, HasLine}
 use Rattle.xrf_forms.specs.Operands.{class_of}
 use Rattle.xrf_forms.specs.Saying.{item_said, said}
-use Rattle.xrf_forms.specs.Spelling.{site_word, choice_text, item_text, HasItem, HasLine, IsClass}
+use Rattle.xrf_forms.specs.Spelling.{site_word, choice_text, item_text}
 use Rattle.xrf_forms.specs.Table.{behind_plan, choice_parts, choices_table, is_of_two, parts_of, settings_of, settings_of_two, work_parts}
 use Rattle.xrf_forms.proofs.Listed.{at_place, listed, in_both, in_two, choice-listed, plan-listed, choice-short, plan-short}
 use Rattle.xrf_forms.proofs.NumberLaws.{number-of-decimal}

@@ -2,13 +2,14 @@
 use Rattle.std.specs.Prelude.{ℕ, Bool, ◌+◌, ◌*◌, ◌-◌, ◌%◌, ◌==◌, ◌&&◌, nat_le, List, [], ◌∷◌, length, Option, Some, None, if◌then◌else◌}
 use Rattle.std.specs.Char.{is_ascii_hexdigit}
 use Rattle.std.specs.List.{list_all}
+use Rattle.xrf_setup.specs.declared.ranges.TheConstants.{TORN_MOST}
 
 abbrev pub is_hex_digit : ℕ → Bool
 is_hex_digit b = is_ascii_hexdigit b
 
 -- an even number of hex digits, of either case, for 1 to 63 bytes
 abbrev pub is_hex : List ℕ → Bool
-is_hex text = nat_le 1 (length text) && nat_le (length text) 126 && length text % 2 == 0 && list_all is_hex_digit text
+is_hex text = nat_le 1 (length text) && nat_le (length text) (2 * TORN_MOST) && length text % 2 == 0 && list_all is_hex_digit text
 
 -- the number that a digit stands for
 abbrev pub digit_value : ℕ → ℕ

@@ -12,6 +12,5 @@ pub mod Saying
 pub mod Reading
 pub mod Grammar
 pub mod Spelling
-pub mod Torn
 pub mod LineText
 pub mod Plain

@@ -6,17 +6,20 @@ use Rattle.xrf_base.specs.Values.{IsValue}
 use Rattle.xrf_base.specs.declared.items.Item.{Item}
 use Rattle.xrf_base.specs.declared.items.Item.TheVariants as item
 use Rattle.xrf_cebt.specs.Command.{mode_word}
-use Rattle.xrf_forms.specs.declared.choice.Choice.{Choice}
-use Rattle.xrf_forms.specs.declared.choice.Choice.TheVariants as choice
-use Rattle.xrf_forms.specs.declared.form.Format.{Format}
-use Rattle.xrf_forms.specs.declared.form.Format.TheVariants.{One, Two}
+use Rattle.xrf_setup.specs.declared.choice.Choice.{Choice}
+use Rattle.xrf_setup.specs.declared.choice.Choice.TheVariants as choice
+use Rattle.xrf_setup.specs.declared.format.Format.{Format}
+use Rattle.xrf_setup.specs.declared.format.Format.TheVariants.{One, Two}
 use Rattle.xrf_forms.specs.declared.keyword.Keyword.{Keyword}
 use Rattle.xrf_forms.specs.declared.keyword.Keyword.TheVariants as key
 use Rattle.xrf_forms.specs.declared.line.Line.{Line}
 use Rattle.xrf_forms.specs.declared.line.Line.TheVariants.{Applid, Takeovr, Adi, Pdi, Log, Ring, File, Pace, Ticks, Images, Level, Xrfsoff, Record, Clt, Work, Plan, Choices, Once, Times, End}
 use Rattle.xrf_forms.specs.Operands.{is_multiple_of}
-use Rattle.xrf_forms.specs.Table.{is_planned as takes_word}
-use Rattle.xrf_forms.specs.Spelling.{site_text, choice_text, work_text, HasLine, HasItem}
+use Rattle.xrf_forms.specs.Spelling.{site_text, choice_text, work_text}
+use Rattle.xrf_setup.specs.Choices.{HasLine, is_planned}
+use Rattle.xrf_setup.specs.Items.{IsItemOf}
+use Rattle.xrf_setup.specs.Ranges.{IsIn}
+use Rattle.xrf_setup.specs.declared.ranges.TheConstants.{INTERVAL_LEAST, INTERVAL_MOST, LOG_LEAST, LOG_MOST, LOG_UNIT, RING_LEAST, RING_MOST, FILE_LEAST, FILE_MOST, PACE_LEAST, PACE_MOST, TICKS_MOST}
 
 abbrev pub header_text : Format → List ℕ
 header_text One = codes "XRF 1"
@@ -47,9 +50,6 @@ line_text (Once c) = choice_text c
 line_text (Times c count) = choice_text c ++ codes " " ++ decimal count
 line_text End = codes "END"
 
-abbrev pub IsIn : ℕ → ℕ → ℕ → Type 0
-IsIn least most n = (least ≤ n) × (n ≤ most)
-
 -- the word with which a choice begins
 abbrev pub choice_keyword : Choice → Keyword
 choice_keyword choice.Tick = key.Tick
@@ -65,20 +65,6 @@ choice_keyword (choice.Cebt site command) = key.Cebt
 choice_keyword (choice.Exit site answer) = key.Exit
 choice_keyword (choice.Fail site landing) = key.Fail
 
--- a choice that PLAN takes
-abbrev pub is_planned : Choice → Bool
-is_planned c = takes_word (choice_keyword c)
-
--- XRF 1 has no users
-abbrev pub has_users : Item → Bool
-has_users (item.Signon terminal user) = true
-has_users (item.Signoff terminal) = true
-has_users _ = false
-
-abbrev pub IsItemOf : Format → Item → Type 0
-IsItemOf One i = HasItem i × (has_users i ≡ false)
-IsItemOf Two i = HasItem i
-
 -- What stands behind XRF 2 alone.
 abbrev pub IsOfTwo : Format → Type 0
 IsOfTwo format = format ≡ Two
@@ -88,19 +74,19 @@ IsOfTwo format = format ≡ Two
 abbrev pub IsSetting : Format → Line → Type 0
 IsSetting format (Applid site name) = IsName name
 IsSetting format (Takeovr mode) = Unit {0}
-IsSetting format (Adi n) = IsIn 5 3600 n
-IsSetting format (Pdi n) = IsIn 5 3600 n
-IsSetting format (Log n) = IsIn 64 1024 n × IsTrue (is_multiple_of n 64)
-IsSetting format (Ring n) = IsIn 2 64 n
-IsSetting format (File n) = IsIn 1 256 n
-IsSetting format (Pace n) = IsIn 10 200 n
-IsSetting format (Ticks n) = IsIn 0 200 n
+IsSetting format (Adi n) = IsIn INTERVAL_LEAST INTERVAL_MOST n
+IsSetting format (Pdi n) = IsIn INTERVAL_LEAST INTERVAL_MOST n
+IsSetting format (Log n) = IsIn LOG_LEAST LOG_MOST n × IsTrue (is_multiple_of n LOG_UNIT)
+IsSetting format (Ring n) = IsIn RING_LEAST RING_MOST n
+IsSetting format (File n) = IsIn FILE_LEAST FILE_MOST n
+IsSetting format (Pace n) = IsIn PACE_LEAST PACE_MOST n
+IsSetting format (Ticks n) = IsIn 0 TICKS_MOST n
 IsSetting format (Images on) = Unit {0}
 IsSetting format (Level site n) = IsOfTwo format × IsIn 1 2 n
 IsSetting format (Xrfsoff force) = IsOfTwo format
-IsSetting format (Record n value) = IsIn 1 256 n × IsValue value
+IsSetting format (Record n value) = IsIn FILE_LEAST FILE_MOST n × IsValue value
 IsSetting format (Work site i) = IsItemOf format i
-IsSetting format (Plan tick c) = IsIn 0 200 tick × (is_planned c ≡ true) × HasLine c
+IsSetting format (Plan tick c) = IsIn 0 TICKS_MOST tick × (is_planned c ≡ true) × HasLine c
 IsSetting format Choices = Unit {0}
 IsSetting format Clt = ⊥
 IsSetting format (Once c) = ⊥

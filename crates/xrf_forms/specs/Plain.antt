@@ -1,7 +1,8 @@
 -- Plain lines.
 use Rattle.std.specs.Prelude.{◌≡◌, ◌≤◌, ℕ, List, ◌∷◌, length}
 use Rattle.std.specs.List.{AllByRecursion}
-use Rattle.xrf_forms.specs.LineText.{IsIn}
+use Rattle.xrf_setup.specs.Ranges.{IsIn}
+use Rattle.xrf_setup.specs.declared.ranges.TheConstants.{LINE_MOST}
 
 -- At most 300 bytes from blank to `~`, of which the first is a capital letter.
 pub record IsPlain (line : List ℕ) : Type 0 where
@@ -10,4 +11,4 @@ pub record IsPlain (line : List ℕ) : Type 0 where
   pub starts : line ≡ first ∷ rest
   pub letter : IsIn 65 90 first
   pub bytes : AllByRecursion (IsIn 32 126) line
-  pub short : length line ≤ 300
+  pub short : length line ≤ LINE_MOST

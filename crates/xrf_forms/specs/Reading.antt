@@ -10,8 +10,8 @@ use Rattle.xrf_forms.specs.Table.{parts_of}
 use Rattle.xrf_forms.specs.Fitting.{form_for, first_fault}
 use Rattle.xrf_forms.specs.Saying.{said}
 use Rattle.xrf_forms.specs.Places.{first, second}
-use Rattle.xrf_forms.specs.declared.form.Format.{Format}
-use Rattle.xrf_forms.specs.declared.form.Format.TheVariants.{One, Two}
+use Rattle.xrf_setup.specs.declared.format.Format.{Format}
+use Rattle.xrf_setup.specs.declared.format.Format.TheVariants.{One, Two}
 
 -- the reason where there is one, else what the words say
 abbrev pub unless_fault : Option Reason → Option Line → Result Line Reason

@@ -12,10 +12,10 @@ use Rattle.xrf_forms.specs.declared.form.ChoiceForm.{ChoiceForm}
 use Rattle.xrf_forms.specs.declared.form.ChoiceForm.TheVariants as by
 use Rattle.xrf_forms.specs.declared.form.Form.{Form}
 use Rattle.xrf_forms.specs.declared.form.Form.TheVariants as form
-use Rattle.xrf_forms.specs.declared.choice.Landing.{Landing}
-use Rattle.xrf_forms.specs.declared.choice.Landing.TheVariants.{Nothing, All, Torn}
-use Rattle.xrf_forms.specs.declared.choice.Choice.{Choice}
-use Rattle.xrf_forms.specs.declared.choice.Choice.TheVariants as choice
+use Rattle.xrf_setup.specs.declared.choice.Landing.{Landing}
+use Rattle.xrf_setup.specs.declared.choice.Landing.TheVariants.{Nothing, All, Torn}
+use Rattle.xrf_setup.specs.declared.choice.Choice.{Choice}
+use Rattle.xrf_setup.specs.declared.choice.Choice.TheVariants as choice
 use Rattle.xrf_forms.specs.declared.line.Line.{Line}
 use Rattle.xrf_forms.specs.declared.line.Line.TheVariants as line
 use Rattle.xrf_forms.specs.Hex.{torn_of_hex}

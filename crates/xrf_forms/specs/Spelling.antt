@@ -13,10 +13,10 @@ use Rattle.xrf_exit.specs.declared.ExitAnswer.{ExitAnswer}
 use Rattle.xrf_exit.specs.declared.ExitAnswer.TheVariants.{Abend, Keep, Drop}
 use Rattle.xrf_forms.specs.declared.writing.Piece.{Piece}
 use Rattle.xrf_forms.specs.declared.writing.Piece.TheVariants.{Text, Number, Hex}
-use Rattle.xrf_forms.specs.declared.choice.Landing.{Landing}
-use Rattle.xrf_forms.specs.declared.choice.Landing.TheVariants.{Nothing, All, Torn}
-use Rattle.xrf_forms.specs.declared.choice.Choice.{Choice}
-use Rattle.xrf_forms.specs.declared.choice.Choice.TheVariants as choice
+use Rattle.xrf_setup.specs.declared.choice.Landing.{Landing}
+use Rattle.xrf_setup.specs.declared.choice.Landing.TheVariants.{Nothing, All, Torn}
+use Rattle.xrf_setup.specs.declared.choice.Choice.{Choice}
+use Rattle.xrf_setup.specs.declared.choice.Choice.TheVariants as choice
 
 -- 0 to 9 and a to f
 abbrev pub hex_digit : ℕ → ℕ
@@ -82,36 +82,6 @@ item_text item.ShutdownTakeover = codes "CEMT SHUTDOWN TAKEOVER"
 item_text (item.Signon terminal user) = codes "SIGNON " ++ terminal ++ codes " " ++ user
 item_text (item.Signoff terminal) = codes "SIGNOFF " ++ terminal
 
--- 1 to 63 bytes
-pub record IsTorn (bytes : List ℕ) : Type 0 where
-  pub least : 1 ≤ length bytes
-  pub most : length bytes ≤ 63
-  pub each : AllByRecursion (λ b. b < 256) bytes
-
--- a choice whose number and whose torn bytes a line can spell
-abbrev pub HasLine : Choice → Type 0
-HasLine (choice.Confirm number) = number ≤ 65535
-HasLine (choice.Stop site (Torn torn)) = IsTorn torn
-HasLine (choice.Fail site (Torn torn)) = IsTorn torn
-HasLine _ = Unit {0}
-
 -- a line of work
 abbrev pub work_text : Site → Item → List ℕ
 work_text site i = site_text (codes "WORK") site (codes " " ++ item_text i)
-
--- the class of a terminal
-abbrev pub IsClass : ℕ → Type 0
-IsClass class = (1 ≤ class) × (class ≤ 3)
-
--- an item whose names, numbers and values a line can spell
-abbrev pub HasItem : Item → Type 0
-HasItem (item.Begin unit) = IsName unit
-HasItem (item.Put unit number value) = IsName unit × (number ≤ 65535) × IsValue value
-HasItem (item.Get unit number) = IsName unit × (number ≤ 65535)
-HasItem (item.Commit unit) = IsName unit
-HasItem (item.Roll unit) = IsName unit
-HasItem (item.Logon terminal class) = IsName terminal × IsClass class
-HasItem (item.Logoff terminal) = IsName terminal
-HasItem (item.Signon terminal user) = IsName terminal × IsName user
-HasItem (item.Signoff terminal) = IsName terminal
-HasItem _ = Unit {0}

@@ -18,8 +18,9 @@ use Rattle.xrf_forms.specs.declared.form.ChoiceForm.{ChoiceForm}
 use Rattle.xrf_forms.specs.declared.form.ChoiceForm.TheVariants as choice
 use Rattle.xrf_forms.specs.declared.form.Form.{Form}
 use Rattle.xrf_forms.specs.declared.form.Form.TheVariants as form
-use Rattle.xrf_forms.specs.declared.form.Format.{Format}
-use Rattle.xrf_forms.specs.declared.form.Format.TheVariants.{One, Two}
+use Rattle.xrf_setup.specs.declared.format.Format.{Format}
+use Rattle.xrf_setup.specs.declared.format.Format.TheVariants.{One, Two}
+use Rattle.xrf_setup.specs.declared.ranges.TheConstants.{INTERVAL_LEAST, INTERVAL_MOST, LOG_LEAST, LOG_MOST, LOG_UNIT, RING_LEAST, RING_MOST, FILE_LEAST, FILE_MOST, PACE_LEAST, PACE_MOST, TICKS_MOST, NUMBER_MOST, CLASS_LEAST, CLASS_MOST}
 
 abbrev pub choice_parts : ChoiceForm → List Part
 choice_parts choice.Tick = Key key.Tick UnknownWord ∷ []
@@ -36,7 +37,7 @@ choice_parts choice.FailTorn = Key key.Fail UnknownWord ∷ Site ∷ Key key.Tor
 choice_parts choice.StartActive = Key key.Start UnknownWord ∷ Site ∷ Key key.Active BadOption ∷ []
 choice_parts choice.StartStandby = Key key.Start UnknownWord ∷ Site ∷ Key key.Standby BadOption ∷ []
 choice_parts choice.Abend = Key key.Abend UnknownWord ∷ Site ∷ []
-choice_parts choice.Confirm = Key key.Confirm UnknownWord ∷ Number 0 65535 ∷ []
+choice_parts choice.Confirm = Key key.Confirm UnknownWord ∷ Number 0 NUMBER_MOST ∷ []
 choice_parts (choice.Reply true) = Key key.Reply UnknownWord ∷ Site ∷ Key key.Go BadOption ∷ []
 choice_parts (choice.Reply false) = Key key.Reply UnknownWord ∷ Site ∷ Key key.Ignore BadOption ∷ []
 choice_parts (choice.Cebt PerformTakeover) = Key key.Cebt UnknownWord ∷ Site ∷ Key key.Perform BadCebt ∷ Key key.Takeover BadCebt ∷ []
@@ -67,15 +68,15 @@ behind_plan (Key keyword reason ∷ more) = (if is_planned keyword then Key keyw
 behind_plan parts = parts
 
 abbrev pub planned_parts : ChoiceForm → List Part
-planned_parts form = Key key.Plan UnknownWord ∷ Number 0 200 ∷ behind_plan (choice_parts form)
+planned_parts form = Key key.Plan UnknownWord ∷ Number 0 TICKS_MOST ∷ behind_plan (choice_parts form)
 
 abbrev pub work_parts : ItemForm → List Part
 work_parts item.Begin = Key key.Work UnknownWord ∷ Site ∷ Key key.Begin BadItem ∷ Name ∷ []
-work_parts item.Put = Key key.Work UnknownWord ∷ Site ∷ Key key.Put BadItem ∷ Name ∷ Number 0 65535 ∷ Value ∷ []
-work_parts item.Get = Key key.Work UnknownWord ∷ Site ∷ Key key.Get BadItem ∷ Name ∷ Number 0 65535 ∷ []
+work_parts item.Put = Key key.Work UnknownWord ∷ Site ∷ Key key.Put BadItem ∷ Name ∷ Number 0 NUMBER_MOST ∷ Value ∷ []
+work_parts item.Get = Key key.Work UnknownWord ∷ Site ∷ Key key.Get BadItem ∷ Name ∷ Number 0 NUMBER_MOST ∷ []
 work_parts item.Commit = Key key.Work UnknownWord ∷ Site ∷ Key key.Commit BadItem ∷ Name ∷ []
 work_parts item.Roll = Key key.Work UnknownWord ∷ Site ∷ Key key.Roll BadItem ∷ Name ∷ []
-work_parts item.Logon = Key key.Work UnknownWord ∷ Site ∷ Key key.Logon BadItem ∷ Name ∷ Number 1 3 ∷ []
+work_parts item.Logon = Key key.Work UnknownWord ∷ Site ∷ Key key.Logon BadItem ∷ Name ∷ Number CLASS_LEAST CLASS_MOST ∷ []
 work_parts item.Logoff = Key key.Work UnknownWord ∷ Site ∷ Key key.Logoff BadItem ∷ Name ∷ []
 work_parts item.Signon = Key key.Work UnknownWord ∷ Site ∷ Key key.Signon BadItem ∷ Name ∷ Name ∷ []
 work_parts item.Signoff = Key key.Work UnknownWord ∷ Site ∷ Key key.Signoff BadItem ∷ Name ∷ []
@@ -87,19 +88,19 @@ parts_of form.Applid = Key key.Applid UnknownWord ∷ Site ∷ Name ∷ []
 parts_of (form.Takeovr Auto) = Key key.Takeovr UnknownWord ∷ Key key.Auto BadOption ∷ []
 parts_of (form.Takeovr Manual) = Key key.Takeovr UnknownWord ∷ Key key.Manual BadOption ∷ []
 parts_of (form.Takeovr Command) = Key key.Takeovr UnknownWord ∷ Key key.Command BadOption ∷ []
-parts_of form.Adi = Key key.Adi UnknownWord ∷ Number 5 3600 ∷ []
-parts_of form.Pdi = Key key.Pdi UnknownWord ∷ Number 5 3600 ∷ []
-parts_of form.Log = Key key.Log UnknownWord ∷ Multiple 64 1024 64 ∷ []
-parts_of form.Ring = Key key.Ring UnknownWord ∷ Number 2 64 ∷ []
-parts_of form.File = Key key.File UnknownWord ∷ Number 1 256 ∷ []
-parts_of form.Pace = Key key.Pace UnknownWord ∷ Number 10 200 ∷ []
-parts_of form.Ticks = Key key.Ticks UnknownWord ∷ Number 0 200 ∷ []
+parts_of form.Adi = Key key.Adi UnknownWord ∷ Number INTERVAL_LEAST INTERVAL_MOST ∷ []
+parts_of form.Pdi = Key key.Pdi UnknownWord ∷ Number INTERVAL_LEAST INTERVAL_MOST ∷ []
+parts_of form.Log = Key key.Log UnknownWord ∷ Multiple LOG_LEAST LOG_MOST LOG_UNIT ∷ []
+parts_of form.Ring = Key key.Ring UnknownWord ∷ Number RING_LEAST RING_MOST ∷ []
+parts_of form.File = Key key.File UnknownWord ∷ Number FILE_LEAST FILE_MOST ∷ []
+parts_of form.Pace = Key key.Pace UnknownWord ∷ Number PACE_LEAST PACE_MOST ∷ []
+parts_of form.Ticks = Key key.Ticks UnknownWord ∷ Number 0 TICKS_MOST ∷ []
 parts_of (form.Images true) = Key key.Images UnknownWord ∷ Key key.On BadOption ∷ []
 parts_of (form.Images false) = Key key.Images UnknownWord ∷ Key key.Off BadOption ∷ []
 parts_of form.Level = Key key.Level UnknownWord ∷ Site ∷ Number 1 2 ∷ []
 parts_of (form.Xrfsoff true) = Key key.Xrfsoff UnknownWord ∷ Key key.Force BadOption ∷ []
 parts_of (form.Xrfsoff false) = Key key.Xrfsoff UnknownWord ∷ Key key.Noforce BadOption ∷ []
-parts_of form.Record = Key key.Record UnknownWord ∷ Number 1 256 ∷ Value ∷ []
+parts_of form.Record = Key key.Record UnknownWord ∷ Number FILE_LEAST FILE_MOST ∷ Value ∷ []
 parts_of form.CltCancel = Key key.Clt UnknownWord ∷ Name ∷ Key key.Cancel BadOption ∷ Name ∷ []
 parts_of form.CltCommand = Key key.Clt UnknownWord ∷ Name ∷ Key key.Command BadOption ∷ Words ∷ []
 parts_of form.CltWto = Key key.Clt UnknownWord ∷ Name ∷ Key key.Wto BadOption ∷ Words ∷ []

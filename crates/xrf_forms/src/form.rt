@@ -95,12 +95,3 @@ pub enum Form {
     Choice(ChoiceForm),
     End,
 }
-
-/// The format that the header names.
-#[derive(Clone, Copy, Debug, PartialEq, Eq)]
-pub enum Format {
-    /// XRF 1
-    One,
-    /// XRF 2
-    Two,
-}

@@ -2,13 +2,16 @@
 
 ghost use Rattle.std.specs.Prelude.{◌≡◌, ◌≤◌, length, replicate, true};
 ghost use Rattle.std.specs.List.{list_all};
-ghost use Rattle.xrf_forms.specs.Hex.{is_hex, is_hex_digit, digit_value, byte_of};
+ghost use Rattle.xrf_forms.specs.Hex.{is_hex, is_hex_digit, digit_value, byte_of, torn_of_hex};
 ghost use Rattle.xrf_forms.specs.Filling.{one_more, filled, front_of};
+
+use xrf_setup::TornBytes;
+use xrf_setup::ranges::TORN_MOST;
 
 /// The bytes that pairs of digits spelled so far.
 #[derive(Clone, Copy)]
-pub(crate) struct Filling {
-    bytes: [u8; 63],
+struct Filling {
+    bytes: [u8; TORN_MOST],
     count: u8,
 }
 
@@ -31,7 +34,7 @@ pub(crate) fn spells_hex(text: &[u8]) -> bool
     if text.is_empty() {
         return false;
     }
-    if text.len() > 126 {
+    if text.len() > 2 * TORN_MOST {
         return false;
     }
     if text.len() % 2 != 0 {
@@ -68,7 +71,7 @@ fn byte(high: u8, low: u8) -> u8
 fn with_byte(filling: Filling, byte: u8) -> Filling
     ensures { result ≡ one_more filling byte }
 {
-    if filling.count >= 63 {
+    if filling.count as usize >= TORN_MOST {
         return filling;
     }
     let mut bytes = filling.bytes;
@@ -90,14 +93,14 @@ fn fill(filling: Filling, text: &[u8]) -> Filling
     }
 }
 
-/// The bytes that a text of hex digits spells, up to 63 of them.
-pub(crate) fn fill_all(text: &[u8]) -> Filling
+// the bytes that a text of hex digits spells, up to 63 of them
+fn fill_all(text: &[u8]) -> Filling
     requires { list_all is_hex_digit text.now ≡ true }
-    ensures { result ≡ filled (record { bytes = replicate 63 0; count = 0 }) text.now }
+    ensures { result ≡ filled (record { bytes = replicate TORN_MOST 0; count = 0 }) text.now }
 {
     fill(
         Filling {
-            bytes: [0; 63],
+            bytes: [0; TORN_MOST],
             count: 0,
         },
         text,
@@ -105,13 +108,23 @@ pub(crate) fn fill_all(text: &[u8]) -> Filling
 }
 
 impl Filling {
-    /// The bytes so far.
-    pub(crate) fn front(&self) -> &[u8]
+    // the bytes so far
+    fn front(&self) -> &[u8]
         ensures { result.now ≡ front_of self.now }
     {
-        if self.count >= 63 {
+        if self.count as usize >= TORN_MOST {
             return &self.bytes;
         }
         &self.bytes[..self.count as usize]
     }
+}
+
+/// The bytes that a text spells in hex, or none where it spells none.
+pub(crate) fn read_hex(text: &[u8]) -> Option<TornBytes>
+    ensures { result ≡ torn_of_hex text.now }
+{
+    if !spells_hex(text) {
+        return None;
+    }
+    TornBytes::new(fill_all(text).front())
 }

@@ -1,7 +1,7 @@
 //! What one line says.
 
-use crate::choice::Choice;
 use xrf_base::{Item, Name8, Site, Takeovr, Value};
+use xrf_setup::Choice;
 
 /// What one line behind the header says.
 #[derive(Clone, Copy)]

@@ -8,17 +8,17 @@ ghost use Rattle.xrf_text.specs.Text.{words};
 ghost use Rattle.xrf_forms.specs.LineText.{header_text, line_text, IsChoosing, IsCommand, IsSetting};
 ghost use Rattle.xrf_forms.specs.Plain.{IsPlain};
 ghost use Rattle.xrf_forms.specs.Reading.{header_of, line_of};
-ghost use Rattle.xrf_forms.specs.Spelling.{choice_text, site_text, work_text, HasLine};
+ghost use Rattle.xrf_forms.specs.Spelling.{choice_text, site_text, work_text};
+ghost use Rattle.xrf_setup.specs.Choices.{HasLine};
 ghost use Rattle.xrf_forms.specs.Table.{choices_table, settings_of};
 ghost use Rattle.xrf_forms.specs.declared.line.Line.TheVariants.{Clt};
 
-use crate::choice::Choice;
-use crate::form::Format;
 use crate::line::Line;
 use crate::writing::Piece::{Number, Text};
 use crate::writing::{put, put_choice, put_item, put_named, put_of_site, put_text};
 use std::alloc::{AllocError, Global};
 use xrf_base::{Item, Site, Takeovr};
+use xrf_setup::{Choice, Format};
 
 fn mode_word(mode: Takeovr) -> &'static [u8]
     ensures { result.now ≡ mode_word mode }

@@ -7,12 +7,13 @@ ghost use Rattle.xrf_text.specs.Text.{words};
 ghost use Rattle.xrf_forms.specs.Reading.{line_of_form, line_of, are_two, header_of};
 
 use crate::fitting::{choose_form, find_fault};
-use crate::form::{Form, Format};
+use crate::form::Form;
 use crate::line::Line;
 use crate::reason::Reason;
 use crate::saying::say;
 use crate::table::{choices, settings};
 use crate::word::{first_word, second_word};
+use xrf_setup::Format;
 use xrf_text::split_word;
 
 fn read_form(form: Form, line: &[u8]) -> Result<Line, Reason>

@@ -4,19 +4,19 @@ ghost use Rattle.std.specs.Prelude.{◌≡◌};
 ghost use Rattle.xrf_text.specs.Text.{words};
 ghost use Rattle.xrf_forms.specs.Saying.{torn_said, site_said, choice_said, once_said, item_said, work_said, plan_said, applid_said, level_said, record_said, said};
 
-use crate::choice::{Choice, Landing};
 use crate::form::{ChoiceForm, Form, ItemForm};
+use crate::hex::read_hex;
 use crate::line::Line;
 use crate::number::read_number;
 use crate::operand::{read_class, read_site};
-use crate::torn::TornBytes;
 use crate::word::{behind_first, fifth_word, fourth_word, second_word, sixth_word, third_word};
 use xrf_base::{Inc, Item, Name8, Site, Value};
+use xrf_setup::{Choice, Landing};
 
 fn torn(line: &[u8]) -> Option<Landing>
     ensures { result ≡ torn_said (words line.now) }
 {
-    Some(Landing::Torn(TornBytes::from_hex(fourth_word(line))?))
+    Some(Landing::Torn(read_hex(fourth_word(line))?))
 }
 
 // the choices that name a site alone, or a site and keywords

@@ -3,12 +3,17 @@
 ghost use Rattle.std.specs.Prelude.{◌≡◌};
 ghost use Rattle.xrf_forms.specs.Table.{parts_of, choice_parts, planned_parts, work_parts, settings_of, choices_table};
 
-use crate::form::{ChoiceForm, Form, Format, ItemForm, Part};
+use crate::form::{ChoiceForm, Form, ItemForm, Part};
 use crate::keyword::Keyword;
 use crate::reason::Reason;
 use xrf_base::Takeovr;
 use xrf_cebt::Cebt;
 use xrf_exit::ExitAnswer;
+use xrf_setup::Format;
+use xrf_setup::ranges::{
+    CLASS_LEAST, CLASS_MOST, FILE_LEAST, FILE_MOST, INTERVAL_LEAST, INTERVAL_MOST, LOG_LEAST,
+    LOG_MOST, LOG_UNIT, NUMBER_MOST, PACE_LEAST, PACE_MOST, RING_LEAST, RING_MOST, TICKS_MOST,
+};
 
 /// The parts of a choice.
 fn choice_parts(form: ChoiceForm) -> &'static [Part]
@@ -81,7 +86,7 @@ fn choice_parts(form: ChoiceForm) -> &'static [Part]
         ],
         ChoiceForm::Confirm => &[
             Part::Keyword(Keyword::Confirm, Reason::UnknownWord),
-            Part::Number(0, 65535),
+            Part::Number(0, NUMBER_MOST),
         ],
         ChoiceForm::Reply(true) => &[
             Part::Keyword(Keyword::Reply, Reason::UnknownWord),
@@ -177,51 +182,51 @@ fn planned_parts(form: ChoiceForm) -> &'static [Part]
     match form {
         ChoiceForm::Tick => &[
             Part::Keyword(Keyword::Plan, Reason::UnknownWord),
-            Part::Number(0, 200),
+            Part::Number(0, TICKS_MOST),
             Part::Refused(Keyword::Tick, Reason::BadPlan),
         ],
         ChoiceForm::TickTimes => &[
             Part::Keyword(Keyword::Plan, Reason::UnknownWord),
-            Part::Number(0, 200),
+            Part::Number(0, TICKS_MOST),
             Part::Refused(Keyword::Tick, Reason::BadPlan),
             Part::Number(1, 9999),
         ],
         ChoiceForm::Step => &[
             Part::Keyword(Keyword::Plan, Reason::UnknownWord),
-            Part::Number(0, 200),
+            Part::Number(0, TICKS_MOST),
             Part::Refused(Keyword::Step, Reason::BadPlan),
             Part::Site,
         ],
         ChoiceForm::StepTimes => &[
             Part::Keyword(Keyword::Plan, Reason::UnknownWord),
-            Part::Number(0, 200),
+            Part::Number(0, TICKS_MOST),
             Part::Refused(Keyword::Step, Reason::BadPlan),
             Part::Site,
             Part::Number(1, 9999),
         ],
         ChoiceForm::Lose => &[
             Part::Keyword(Keyword::Plan, Reason::UnknownWord),
-            Part::Number(0, 200),
+            Part::Number(0, TICKS_MOST),
             Part::Refused(Keyword::Lose, Reason::BadPlan),
             Part::Site,
         ],
         ChoiceForm::StopNothing => &[
             Part::Keyword(Keyword::Plan, Reason::UnknownWord),
-            Part::Number(0, 200),
+            Part::Number(0, TICKS_MOST),
             Part::Keyword(Keyword::Stop, Reason::BadPlan),
             Part::Site,
             Part::Keyword(Keyword::NoneWord, Reason::BadOption),
         ],
         ChoiceForm::StopAll => &[
             Part::Keyword(Keyword::Plan, Reason::UnknownWord),
-            Part::Number(0, 200),
+            Part::Number(0, TICKS_MOST),
             Part::Keyword(Keyword::Stop, Reason::BadPlan),
             Part::Site,
             Part::Keyword(Keyword::All, Reason::BadOption),
         ],
         ChoiceForm::StopTorn => &[
             Part::Keyword(Keyword::Plan, Reason::UnknownWord),
-            Part::Number(0, 200),
+            Part::Number(0, TICKS_MOST),
             Part::Keyword(Keyword::Stop, Reason::BadPlan),
             Part::Site,
             Part::Keyword(Keyword::Torn, Reason::BadOption),
@@ -229,21 +234,21 @@ fn planned_parts(form: ChoiceForm) -> &'static [Part]
         ],
         ChoiceForm::FailNothing => &[
             Part::Keyword(Keyword::Plan, Reason::UnknownWord),
-            Part::Number(0, 200),
+            Part::Number(0, TICKS_MOST),
             Part::Refused(Keyword::Fail, Reason::BadPlan),
             Part::Site,
             Part::Keyword(Keyword::NoneWord, Reason::BadOption),
         ],
         ChoiceForm::FailAll => &[
             Part::Keyword(Keyword::Plan, Reason::UnknownWord),
-            Part::Number(0, 200),
+            Part::Number(0, TICKS_MOST),
             Part::Refused(Keyword::Fail, Reason::BadPlan),
             Part::Site,
             Part::Keyword(Keyword::All, Reason::BadOption),
         ],
         ChoiceForm::FailTorn => &[
             Part::Keyword(Keyword::Plan, Reason::UnknownWord),
-            Part::Number(0, 200),
+            Part::Number(0, TICKS_MOST),
             Part::Refused(Keyword::Fail, Reason::BadPlan),
             Part::Site,
             Part::Keyword(Keyword::Torn, Reason::BadOption),
@@ -251,47 +256,47 @@ fn planned_parts(form: ChoiceForm) -> &'static [Part]
         ],
         ChoiceForm::StartActive => &[
             Part::Keyword(Keyword::Plan, Reason::UnknownWord),
-            Part::Number(0, 200),
+            Part::Number(0, TICKS_MOST),
             Part::Keyword(Keyword::Start, Reason::BadPlan),
             Part::Site,
             Part::Keyword(Keyword::Active, Reason::BadOption),
         ],
         ChoiceForm::StartStandby => &[
             Part::Keyword(Keyword::Plan, Reason::UnknownWord),
-            Part::Number(0, 200),
+            Part::Number(0, TICKS_MOST),
             Part::Keyword(Keyword::Start, Reason::BadPlan),
             Part::Site,
             Part::Keyword(Keyword::Standby, Reason::BadOption),
         ],
         ChoiceForm::Abend => &[
             Part::Keyword(Keyword::Plan, Reason::UnknownWord),
-            Part::Number(0, 200),
+            Part::Number(0, TICKS_MOST),
             Part::Keyword(Keyword::Abend, Reason::BadPlan),
             Part::Site,
         ],
         ChoiceForm::Confirm => &[
             Part::Keyword(Keyword::Plan, Reason::UnknownWord),
-            Part::Number(0, 200),
+            Part::Number(0, TICKS_MOST),
             Part::Keyword(Keyword::Confirm, Reason::BadPlan),
-            Part::Number(0, 65535),
+            Part::Number(0, NUMBER_MOST),
         ],
         ChoiceForm::Reply(true) => &[
             Part::Keyword(Keyword::Plan, Reason::UnknownWord),
-            Part::Number(0, 200),
+            Part::Number(0, TICKS_MOST),
             Part::Keyword(Keyword::Reply, Reason::BadPlan),
             Part::Site,
             Part::Keyword(Keyword::Go, Reason::BadOption),
         ],
         ChoiceForm::Reply(false) => &[
             Part::Keyword(Keyword::Plan, Reason::UnknownWord),
-            Part::Number(0, 200),
+            Part::Number(0, TICKS_MOST),
             Part::Keyword(Keyword::Reply, Reason::BadPlan),
             Part::Site,
             Part::Keyword(Keyword::Ignore, Reason::BadOption),
         ],
         ChoiceForm::Cebt(Cebt::PerformTakeover) => &[
             Part::Keyword(Keyword::Plan, Reason::UnknownWord),
-            Part::Number(0, 200),
+            Part::Number(0, TICKS_MOST),
             Part::Keyword(Keyword::Cebt, Reason::BadPlan),
             Part::Site,
             Part::Keyword(Keyword::Perform, Reason::BadCebt),
@@ -299,7 +304,7 @@ fn planned_parts(form: ChoiceForm) -> &'static [Part]
         ],
         ChoiceForm::Cebt(Cebt::PerformShutdown) => &[
             Part::Keyword(Keyword::Plan, Reason::UnknownWord),
-            Part::Number(0, 200),
+            Part::Number(0, TICKS_MOST),
             Part::Keyword(Keyword::Cebt, Reason::BadPlan),
             Part::Site,
             Part::Keyword(Keyword::Perform, Reason::BadCebt),
@@ -307,7 +312,7 @@ fn planned_parts(form: ChoiceForm) -> &'static [Part]
         ],
         ChoiceForm::Cebt(Cebt::InquireTakeover) => &[
             Part::Keyword(Keyword::Plan, Reason::UnknownWord),
-            Part::Number(0, 200),
+            Part::Number(0, TICKS_MOST),
             Part::Keyword(Keyword::Cebt, Reason::BadPlan),
             Part::Site,
             Part::Keyword(Keyword::Inquire, Reason::BadCebt),
@@ -315,7 +320,7 @@ fn planned_parts(form: ChoiceForm) -> &'static [Part]
         ],
         ChoiceForm::Cebt(Cebt::InquireSurveillance) => &[
             Part::Keyword(Keyword::Plan, Reason::UnknownWord),
-            Part::Number(0, 200),
+            Part::Number(0, TICKS_MOST),
             Part::Keyword(Keyword::Cebt, Reason::BadPlan),
             Part::Site,
             Part::Keyword(Keyword::Inquire, Reason::BadCebt),
@@ -323,7 +328,7 @@ fn planned_parts(form: ChoiceForm) -> &'static [Part]
         ],
         ChoiceForm::Cebt(Cebt::SetTakeover(Takeovr::Auto)) => &[
             Part::Keyword(Keyword::Plan, Reason::UnknownWord),
-            Part::Number(0, 200),
+            Part::Number(0, TICKS_MOST),
             Part::Keyword(Keyword::Cebt, Reason::BadPlan),
             Part::Site,
             Part::Keyword(Keyword::Set, Reason::BadCebt),
@@ -332,7 +337,7 @@ fn planned_parts(form: ChoiceForm) -> &'static [Part]
         ],
         ChoiceForm::Cebt(Cebt::SetTakeover(Takeovr::Manual)) => &[
             Part::Keyword(Keyword::Plan, Reason::UnknownWord),
-            Part::Number(0, 200),
+            Part::Number(0, TICKS_MOST),
             Part::Keyword(Keyword::Cebt, Reason::BadPlan),
             Part::Site,
             Part::Keyword(Keyword::Set, Reason::BadCebt),
@@ -341,7 +346,7 @@ fn planned_parts(form: ChoiceForm) -> &'static [Part]
         ],
         ChoiceForm::Cebt(Cebt::SetTakeover(Takeovr::Command)) => &[
             Part::Keyword(Keyword::Plan, Reason::UnknownWord),
-            Part::Number(0, 200),
+            Part::Number(0, TICKS_MOST),
             Part::Keyword(Keyword::Cebt, Reason::BadPlan),
             Part::Site,
             Part::Keyword(Keyword::Set, Reason::BadCebt),
@@ -350,7 +355,7 @@ fn planned_parts(form: ChoiceForm) -> &'static [Part]
         ],
         ChoiceForm::Cebt(Cebt::SetSurveillance(true)) => &[
             Part::Keyword(Keyword::Plan, Reason::UnknownWord),
-            Part::Number(0, 200),
+            Part::Number(0, TICKS_MOST),
             Part::Keyword(Keyword::Cebt, Reason::BadPlan),
             Part::Site,
             Part::Keyword(Keyword::Set, Reason::BadCebt),
@@ -359,7 +364,7 @@ fn planned_parts(form: ChoiceForm) -> &'static [Part]
         ],
         ChoiceForm::Cebt(Cebt::SetSurveillance(false)) => &[
             Part::Keyword(Keyword::Plan, Reason::UnknownWord),
-            Part::Number(0, 200),
+            Part::Number(0, TICKS_MOST),
             Part::Keyword(Keyword::Cebt, Reason::BadPlan),
             Part::Site,
             Part::Keyword(Keyword::Set, Reason::BadCebt),
@@ -368,21 +373,21 @@ fn planned_parts(form: ChoiceForm) -> &'static [Part]
         ],
         ChoiceForm::Exit(ExitAnswer::Abend) => &[
             Part::Keyword(Keyword::Plan, Reason::UnknownWord),
-            Part::Number(0, 200),
+            Part::Number(0, TICKS_MOST),
             Part::Refused(Keyword::Exit, Reason::BadPlan),
             Part::Site,
             Part::Keyword(Keyword::Abend, Reason::BadOption),
         ],
         ChoiceForm::Exit(ExitAnswer::Keep) => &[
             Part::Keyword(Keyword::Plan, Reason::UnknownWord),
-            Part::Number(0, 200),
+            Part::Number(0, TICKS_MOST),
             Part::Refused(Keyword::Exit, Reason::BadPlan),
             Part::Site,
             Part::Keyword(Keyword::Keep, Reason::BadOption),
         ],
         ChoiceForm::Exit(ExitAnswer::Drop) => &[
             Part::Keyword(Keyword::Plan, Reason::UnknownWord),
-            Part::Number(0, 200),
+            Part::Number(0, TICKS_MOST),
             Part::Refused(Keyword::Exit, Reason::BadPlan),
             Part::Site,
             Part::Keyword(Keyword::Drop, Reason::BadOption),
@@ -406,7 +411,7 @@ fn work_parts(form: ItemForm) -> &'static [Part]
             Part::Site,
             Part::Keyword(Keyword::Put, Reason::BadItem),
             Part::Name,
-            Part::Number(0, 65535),
+            Part::Number(0, NUMBER_MOST),
             Part::Value,
         ],
         ItemForm::Get => &[
@@ -414,7 +419,7 @@ fn work_parts(form: ItemForm) -> &'static [Part]
             Part::Site,
             Part::Keyword(Keyword::Get, Reason::BadItem),
             Part::Name,
-            Part::Number(0, 65535),
+            Part::Number(0, NUMBER_MOST),
         ],
         ItemForm::Commit => &[
             Part::Keyword(Keyword::Work, Reason::UnknownWord),
@@ -433,7 +438,7 @@ fn work_parts(form: ItemForm) -> &'static [Part]
             Part::Site,
             Part::Keyword(Keyword::Logon, Reason::BadItem),
             Part::Name,
-            Part::Number(1, 3),
+            Part::Number(CLASS_LEAST, CLASS_MOST),
         ],
         ItemForm::Logoff => &[
             Part::Keyword(Keyword::Work, Reason::UnknownWord),
@@ -495,31 +500,31 @@ impl Form {
             ],
             Form::Adi => &[
                 Part::Keyword(Keyword::Adi, Reason::UnknownWord),
-                Part::Number(5, 3600),
+                Part::Number(INTERVAL_LEAST, INTERVAL_MOST),
             ],
             Form::Pdi => &[
                 Part::Keyword(Keyword::Pdi, Reason::UnknownWord),
-                Part::Number(5, 3600),
+                Part::Number(INTERVAL_LEAST, INTERVAL_MOST),
             ],
             Form::Log => &[
                 Part::Keyword(Keyword::Log, Reason::UnknownWord),
-                Part::Multiple(64, 1024, 64),
+                Part::Multiple(LOG_LEAST, LOG_MOST, LOG_UNIT),
             ],
             Form::Ring => &[
                 Part::Keyword(Keyword::Ring, Reason::UnknownWord),
-                Part::Number(2, 64),
+                Part::Number(RING_LEAST, RING_MOST),
             ],
             Form::File => &[
                 Part::Keyword(Keyword::File, Reason::UnknownWord),
-                Part::Number(1, 256),
+                Part::Number(FILE_LEAST, FILE_MOST),
             ],
             Form::Pace => &[
                 Part::Keyword(Keyword::Pace, Reason::UnknownWord),
-                Part::Number(10, 200),
+                Part::Number(PACE_LEAST, PACE_MOST),
             ],
             Form::Ticks => &[
                 Part::Keyword(Keyword::Ticks, Reason::UnknownWord),
-                Part::Number(0, 200),
+                Part::Number(0, TICKS_MOST),
             ],
             Form::Images(true) => &[
                 Part::Keyword(Keyword::Images, Reason::UnknownWord),
@@ -544,7 +549,7 @@ impl Form {
             ],
             Form::Record => &[
                 Part::Keyword(Keyword::Record, Reason::UnknownWord),
-                Part::Number(1, 256),
+                Part::Number(FILE_LEAST, FILE_MOST),
                 Part::Value,
             ],
             Form::CltCancel => &[

@@ -1,3 +1,4 @@
+use super::hex::read_hex;
 use super::*;
 use std::test::Fail;
 use xrf_base::{Item, Site};
@@ -351,9 +352,9 @@ fn a_line_says_what_its_words_spell(rt: HostRuntime) -> Result<(), Fail> {
             Ok(Line::Times(Choice::Step(Site::A), 7))
         )
     );
-    let torn = TornBytes::from_hex(b"c1Ff").ok_or("no hex")?;
+    let torn = read_hex(b"c1Ff").ok_or("no hex")?;
     assert_eq!(rt; torn.bytes(), [0xc1, 0xff].as_slice());
-    assert!(rt; TornBytes::from_hex(b"c1f").is_none());
+    assert!(rt; read_hex(b"c1f").is_none());
     Ok(())
 }
 
@@ -481,16 +482,5 @@ fn headers_are_written_as_they_are_read(rt: HostRuntime) -> Result<(), Fail> {
         put_header(rt.alloc(), &mut out, format)?;
         assert_eq!(rt; read_header(out.as_slice()), Ok(format));
     }
-    Ok(())
-}
-
-#[test]
-fn torn_bytes_are_1_to_63(rt: HostRuntime) -> Result<(), Fail> {
-    let torn = TornBytes::new(b"\x00\xc1 ").ok_or("none")?;
-    assert!(rt; torn.bytes() == b"\x00\xc1 ".as_slice());
-    assert!(rt; TornBytes::new(&[]).is_none());
-    assert!(rt; TornBytes::new(&[7; 64]).is_none());
-    let most = TornBytes::new(&[7; 63]).ok_or("none")?;
-    assert!(rt; most.bytes().len() == 63);
     Ok(())
 }

@@ -5,12 +5,12 @@ ghost use Rattle.std.specs.Fmt.{decimal};
 ghost use Rattle.xrf_cebt.specs.Command.{command_text};
 ghost use Rattle.xrf_forms.specs.Spelling.{hex_digit, hex_text, piece_text, pieces_text, site_text, site_word, answer_word, landed_text, go_text, choice_text, item_text};
 
-use crate::choice::{Choice, Landing};
 use Piece::{Hex, Number, Text};
 use std::alloc::{AllocError, Global};
 use xrf_base::{Item, Site};
 use xrf_cebt::Cebt;
 use xrf_exit::ExitAnswer;
+use xrf_setup::{Choice, Landing};
 
 /// A piece of a text.
 #[derive(Clone, Copy)]

@@ -1,7 +1,7 @@
 -- What is read of a document, and how long it is.
 use Rattle.std.proofs.Common.{◌≡◌, ◌≤◌, ◌<◌, ◌+◌, ℕ, List, ◌++◌, length, Result, Ok, IfOk, sym, ap, ◌∙◌, arith, subst}
 use Rattle.std.proofs.lemmas.List.{length-append}
-use Rattle.xrf_forms.specs.declared.choice.Choice.{Choice}
+use Rattle.xrf_setup.specs.declared.choice.Choice.{Choice}
 use Rattle.xrf_scenario.proofs.CanonLaws.{read_again}
 use Rattle.xrf_scenario.proofs.PlainLaws.{file-most}
 use Rattle.xrf_scenario.proofs.WorkLaws.{unit-length}
@@ -9,7 +9,7 @@ use Rattle.xrf_scenario.specs.Built.{AreAllowed}
 use Rattle.xrf_scenario.specs.Work.{puts_in}
 use Rattle.xrf_scenario.specs.Canonical.{canon, at_lines, AreChoices}
 use Rattle.xrf_scenario.specs.Reading.{Reads}
-use Rattle.xrf_scenario.specs.Scenario.{Scen, IsScen}
+use Rattle.xrf_setup.specs.Scenario.{Scen, IsScen}
 use Rattle.xrf_scenario.specs.declared.built.Forms.TheVariants.{Built}
 use Rattle.xrf_world.specs.Base.{Base, base_of}
 use Rattle.xrf_world.specs.Runs.{run, IsRun, Refusal}

@@ -16,19 +16,22 @@ use Rattle.xrf_exit.specs.declared.ExitAnswer.{ExitAnswer}
 use Rattle.xrf_exit.specs.declared.ExitAnswer.TheVariants as answer
 use Rattle.xrf_clt.specs.Kept.{Kept}
 use Rattle.xrf_forms.specs.LineText.{line_text}
-use Rattle.xrf_forms.specs.Spelling.{hex_text, site_text, answer_word, go_text, landed_text, choice_text, HasLine}
-use Rattle.xrf_forms.specs.declared.choice.Choice.{Choice}
-use Rattle.xrf_forms.specs.declared.choice.Choice.TheVariants as choice
-use Rattle.xrf_forms.specs.declared.choice.Landing.{Landing}
-use Rattle.xrf_forms.specs.declared.choice.Landing.TheVariants.{Nothing, All, Torn}
-use Rattle.xrf_forms.specs.declared.form.Format.{Format}
-use Rattle.xrf_forms.specs.declared.form.Format.TheVariants.{One, Two}
+use Rattle.xrf_forms.specs.Spelling.{hex_text, site_text, answer_word, go_text, landed_text, choice_text}
+use Rattle.xrf_setup.specs.Choices.{HasLine}
+use Rattle.xrf_setup.specs.declared.choice.Choice.{Choice}
+use Rattle.xrf_setup.specs.declared.choice.Choice.TheVariants as choice
+use Rattle.xrf_setup.specs.declared.choice.Landing.{Landing}
+use Rattle.xrf_setup.specs.declared.choice.Landing.TheVariants.{Nothing, All, Torn}
+use Rattle.xrf_setup.specs.declared.format.Format.{Format}
+use Rattle.xrf_setup.specs.declared.format.Format.TheVariants.{One, Two}
 use Rattle.xrf_forms.specs.declared.line.Line.TheVariants.{Record, Work, Plan, End}
 use Rattle.xrf_forms.specs.Plain.{IsPlain}
 use Rattle.xrf_scenario.proofs.PlainLaws.{file-most, scenario-plain}
 use Rattle.xrf_scenario.specs.Canonical.{fed, text_of, records_said, clt_said, plan_said, scenario_lines, choice_lines, canon, AreChoices}
-use Rattle.xrf_scenario.specs.Scenario.{Scen, IsScen, AreRecords, setting_lines, level_lines, kept_text}
-use Rattle.xrf_scenario.specs.declared.settings.Settings.{Settings}
+use Rattle.xrf_setup.specs.Scenario.{Scen, IsScen, AreRecords}
+use Rattle.xrf_scenario.specs.SettingLines.{setting_lines, level_lines}
+use Rattle.xrf_setup.specs.Commands.{kept_text}
+use Rattle.xrf_setup.specs.declared.settings.Settings.{Settings}
 
 -- lines of so many bytes at most
 abbrev AreShort : ℕ → List (List ℕ) → Type 0

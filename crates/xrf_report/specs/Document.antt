@@ -1,11 +1,11 @@
 -- The document of a scenario and its choices: the canonical text, and the report of their run.
 use Rattle.std.specs.Prelude.{ℕ, List, [], ◌++◌, Result, Ok, Err}
-use Rattle.xrf_scenario.specs.Scenario.{Scen}
+use Rattle.xrf_setup.specs.Scenario.{Scen}
 use Rattle.xrf_scenario.specs.Built.{AreAllowed}
 use Rattle.xrf_scenario.specs.Canonical.{canon, at_lines}
 use Rattle.xrf_scenario.specs.Reading.{Reads}
 use Rattle.xrf_scenario.specs.declared.built.Forms.{Forms}
-use Rattle.xrf_forms.specs.declared.choice.Choice.{Choice}
+use Rattle.xrf_setup.specs.declared.choice.Choice.{Choice}
 use Rattle.xrf_world.specs.Base.{base_of}
 use Rattle.xrf_world.specs.declared.entry.Entry.{Entry}
 use Rattle.xrf_world.specs.Runs.{run, Refusal}

@@ -11,6 +11,7 @@ ghost use Rattle.xrf_report.specs.Document.{doc, ReadsAgain};
 use crate::report::put_report;
 use std::alloc::{AllocError, Global};
 use xrf_scenario::{Choice, Scenario, put_canonical};
+use xrf_setup::ranges::INPUT_MOST;
 use xrf_world::World;
 
 /// The document of a scenario and the choices that the World has made of it: the canonical text,
@@ -28,7 +29,7 @@ pub fn document(
     requires built { AreAllowed Built scenario.now choices.now }
     ensures document { IfOk result (λ text. text.items ≡ doc scenario.now choices.now) }
     ensures again { IfOk result (λ text. ReadsAgain scenario.now choices.now text.items) }
-    ensures size { IfOk result (λ text. length text.items < 4194304) }
+    ensures size { IfOk result (λ text. length text.items < INPUT_MOST) }
 {
     let mut out = Vec::new(alloc);
     put_canonical(alloc, &mut out, scenario, choices)?;

@@ -4,8 +4,8 @@ use Rattle.std.specs.List.{AllByRecursion}
 use Rattle.std.proofs.lemmas.Bool.{leb-true, and_parts}
 use Rattle.xrf_base.specs.declared.site.Site.TheVariants.{A, B}
 use Rattle.xrf_text.specs.Text.{words}
-use Rattle.xrf_forms.specs.declared.form.Format.{Format}
-use Rattle.xrf_forms.specs.declared.form.Format.TheVariants.{One, Two}
+use Rattle.xrf_setup.specs.declared.format.Format.{Format}
+use Rattle.xrf_setup.specs.declared.format.Format.TheVariants.{One, Two}
 use Rattle.xrf_forms.specs.declared.line.Line.{Line}
 use Rattle.xrf_forms.specs.declared.line.Line.TheVariants.{Applid, Takeovr, Adi, Pdi, Log, Ring, File, Pace, Ticks, Images, Level, Xrfsoff, Record, Clt, Work, Plan, Choices, Once, Times, End}
 use Rattle.xrf_forms.specs.declared.reason.Reason.{Reason}
@@ -13,7 +13,7 @@ use Rattle.xrf_forms.specs.declared.reason.Reason.TheVariants.{RrnRange}
 use Rattle.xrf_scenario.specs.Built.{is_built, is_built_choice, IsBuilt, AreBuilt, allows_format}
 use Rattle.xrf_scenario.specs.Lines.{is_skipped, text_lines}
 use Rattle.xrf_scenario.specs.Reading.{begun, SaysIn, SaysThen, Says, SaysAll, Reads}
-use Rattle.xrf_scenario.specs.Scenario.{Scen}
+use Rattle.xrf_setup.specs.Scenario.{Scen}
 use Rattle.xrf_scenario.specs.SoFar.{SoFar, nothing_said, is_whole}
 use Rattle.xrf_scenario.specs.Taking.{numbered, are_within, take_setting, take}
 use Rattle.xrf_scenario.specs.Work.{is_work, put_count, puts_in}

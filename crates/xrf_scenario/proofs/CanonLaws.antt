@@ -3,20 +3,22 @@ use Rattle.std.proofs.Common.{◌≡◌, ◌+◌, ℕ, true, List, [], ◌++◌,
 use Rattle.std.specs.List.{AllByRecursion}
 use Rattle.xrf_base.specs.declared.items.Item.{Item}
 use Rattle.xrf_base.specs.declared.site.Site.TheVariants.{A, B}
-use Rattle.xrf_forms.specs.declared.choice.Choice.{Choice}
-use Rattle.xrf_forms.specs.declared.form.Format.{Format}
+use Rattle.xrf_setup.specs.declared.choice.Choice.{Choice}
+use Rattle.xrf_setup.specs.declared.format.Format.{Format}
 use Rattle.xrf_forms.specs.declared.line.Line.TheVariants.{Work}
 use Rattle.xrf_forms.specs.Plain.{IsPlain}
 use Rattle.xrf_forms.specs.LineText.{line_text}
 use Rattle.xrf_scenario.specs.Canonical.{text_of, records_said, clt_said, plan_said, scenario_lines, choice_lines, canon, numbered_from, at_lines, AreChoices, IsReportLine, IsReport, ReadAgain}
 use Rattle.xrf_scenario.specs.Lines.{text_lines}
 use Rattle.xrf_scenario.specs.Reading.{begun, SaysAll}
-use Rattle.xrf_scenario.specs.Scenario.{Scen, IsScen, setting_lines, by_number, scenario_of}
+use Rattle.xrf_setup.specs.Scenario.{Scen, IsScen}
+use Rattle.xrf_scenario.specs.SettingLines.{setting_lines}
+use Rattle.xrf_scenario.specs.Settled.{by_number, scenario_of}
 use Rattle.xrf_scenario.specs.SoFar.{SoFar, nothing_said}
 use Rattle.xrf_scenario.specs.Taking.{are_within}
 use Rattle.xrf_scenario.specs.declared.built.Forms.{Forms}
 use Rattle.xrf_scenario.specs.declared.given.Part.TheVariants as part
-use Rattle.xrf_scenario.specs.declared.settings.Settings.{Settings}
+use Rattle.xrf_setup.specs.declared.settings.Settings.{Settings}
 use Rattle.xrf_scenario.proofs.TextLaws.{IsClean, all-both, lines-again, text-both}
 use Rattle.xrf_scenario.proofs.StepLaws.{all-then, plain-clean, header-written, both-say, report-says, report-clean}
 use Rattle.xrf_scenario.proofs.SettingLaws.{given_of, with_given, settings-say, settled-again}
@@ -25,6 +27,7 @@ use Rattle.xrf_scenario.proofs.CltLaws.{with_clt, clt-say}
 use Rattle.xrf_scenario.proofs.WorkLaws.{with_work_a, with_work_b, with_plan, work_a-say, work_b-say, plan-say}
 use Rattle.xrf_scenario.proofs.ChoiceLaws.{ended, choices-say}
 use Rattle.xrf_scenario.proofs.AllowedLaws.{MayCome, may-come}
+use Rattle.xrf_scenario.proofs.SettingsKept.{lines-are}
 use Rattle.xrf_scenario.proofs.PlainLaws.{file-most, scenario-plain, choices-plain}
 
 -- lines say what the first of them say, and then what the others say at any number
@@ -74,7 +77,7 @@ spoken forms s choices is may =
         (
           header-written forms 1 nothing_said format refl may.header,
           six-say forms 1 s1 s2 s3 s4 s5 s6 s7 settings (records_said s.records) (clt_said s.clt) work_a work_b (plan_said s.plan)
-              (settings-say forms 1 s1 s.settings refl is.settings (λ given. may.images (with_given s1 given))) records.says
+              (settings-say forms 1 s1 s.settings refl (lines-are s.settings is.settings) (λ given. may.images (with_given s1 given))) records.says
               (λ (n : ℕ). clt-say forms n s3 s.clt refl is.clt is.clt_few)
               (λ (n : ℕ). work_a-say forms n s4 s.work_a refl is.work_a is.work_a_few (may.work_a s4))
               (λ (n : ℕ). work_b-say forms n s5 s.work_b refl is.work_b is.work_b_few (may.work_b s5))
@@ -84,7 +87,7 @@ spoken forms s choices is may =
       before = refl;
       within = records.within;
       none = refl;
-      scenario = ap (λ (t : Settings). with_settings t (by_number 1 records.last)) (sym (settled-again s.settings is.levels)) ∙ ap (with_settings s.settings) records.numbers;
+      scenario = ap (λ (t : Settings). with_settings t (by_number 1 records.last)) (sym (settled-again s.settings is.settings.levels)) ∙ ap (with_settings s.settings) records.numbers;
     }
   where
     with_settings : Settings → List (ℕ × List ℕ) → Scen

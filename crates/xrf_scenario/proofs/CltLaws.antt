@@ -10,19 +10,19 @@ use Rattle.xrf_clt.specs.Lines.{Line, IsLine, AreOperands, kind_word, line_words
 use Rattle.xrf_clt.specs.declared.CltKind.{CltKind}
 use Rattle.xrf_clt.specs.declared.CltKind.TheVariants.{Cancel, Command, Wto}
 use Rattle.xrf_clt.proofs.Faultless.{faultless}
-use Rattle.xrf_forms.specs.declared.form.Format.{Format}
+use Rattle.xrf_setup.specs.declared.format.Format.{Format}
 use Rattle.xrf_forms.specs.declared.line.Line.TheVariants.{Clt}
 use Rattle.xrf_forms.specs.Grammar.{Spells}
 use Rattle.xrf_forms.specs.Plain.{IsPlain}
-use Rattle.xrf_forms.specs.LineText.{IsIn, IsCommand}
+use Rattle.xrf_setup.specs.Ranges.{IsIn}
+use Rattle.xrf_forms.specs.LineText.{IsCommand}
 use Rattle.xrf_forms.proofs.FormLaws.{line-found}
 use Rattle.xrf_forms.proofs.LineAgain.{clt_again}
 use Rattle.xrf_forms.specs.Places.{behind}
 use Rattle.xrf_forms.specs.Table.{settings_of}
 use Rattle.xrf_scenario.specs.Canonical.{clt_said}
-use Rattle.xrf_scenario.specs.Lines.{is_text_byte}
+use Rattle.xrf_setup.specs.Commands.{is_text_byte, kept_text, IsKept}
 use Rattle.xrf_scenario.specs.Reading.{Says, SaysAll}
-use Rattle.xrf_scenario.specs.Scenario.{kept_text, IsKept}
 use Rattle.xrf_scenario.specs.SoFar.{SoFar}
 use Rattle.xrf_scenario.specs.Taking.{take, with_room}
 use Rattle.xrf_scenario.specs.declared.built.Forms.{Forms}
@@ -121,8 +121,7 @@ kept-bytes k is =
 -- what is written of a line is plain
 pub kept-plain : (k : Kept) → IsKept k → IsPlain (codes "CLT " ++ kept_text k)
 kept-plain k is =
-    let few : length (kept_text k) ≤ 296 = is.short in
-    record { first = 67; rest = codes "LT " ++ kept_text k; starts = refl; letter = (omega arith, omega arith); bytes = kept-bytes k is; short = omega (arith, few) }
+    record { first = 67; rest = codes "LT " ++ kept_text k; starts = refl; letter = (omega arith, omega arith); bytes = kept-bytes k is; short = is.short }
 
 -- what is said, with another command list
 abbrev pub with_clt : SoFar → List Kept → SoFar

@@ -1,22 +1,22 @@
 -- What a reading makes of the lines of a text, and the scenario that it holds.
 use Rattle.std.proofs.Common.{◌≡◌, ◌+◌, ℕ, true, List, [], ◌∷◌, map, Option, Ok, Err, refl, sym, subst}
 use Rattle.std.specs.List.{AllByRecursion}
-use Rattle.xrf_forms.specs.Spelling.{HasLine}
+use Rattle.xrf_setup.specs.Choices.{HasLine}
 use Rattle.xrf_scenario.specs.Built.{IsBuilt, AreBuilt}
 use Rattle.xrf_scenario.specs.Canonical.{AreChoices}
 use Rattle.xrf_scenario.specs.Held.{Gives, IsBad}
-use Rattle.xrf_scenario.specs.Machine.{read_on, read_whole}
+use Rattle.xrf_scenario.specs.Machine.{read_on, read_whole, step}
 use Rattle.xrf_scenario.specs.Reading.{Reads}
-use Rattle.xrf_scenario.specs.Machine.{step}
 use Rattle.xrf_scenario.specs.Said.{IsSaid}
-use Rattle.xrf_scenario.specs.Scenario.{Scen, IsScen, by_number, scenario_of, settled}
+use Rattle.xrf_setup.specs.Scenario.{Scen, IsScen}
+use Rattle.xrf_scenario.specs.Settled.{by_number, scenario_of, settled}
 use Rattle.xrf_scenario.specs.SoFar.{SoFar, is_whole}
 use Rattle.xrf_scenario.specs.declared.built.Forms.{Forms}
 use Rattle.xrf_scenario.specs.declared.built.Forms.TheVariants.{Built}
 use Rattle.xrf_scenario.specs.declared.numbered.Numbered.{Numbered}
 use Rattle.xrf_scenario.specs.declared.read_bad.ReadBad.{ReadBad}
 use Rattle.xrf_scenario.specs.declared.read_bad.ReadBad.TheVariants as bad
-use Rattle.xrf_scenario.specs.declared.settings.Settings.{Settings}
+use Rattle.xrf_setup.specs.declared.settings.Settings.{Settings}
 use Rattle.xrf_scenario.proofs.BuiltLaws.{built-told}
 use Rattle.xrf_scenario.proofs.ReadingLaws.{found-told, bad-told}
 use Rattle.xrf_scenario.proofs.SaidLaws.{scen-said}

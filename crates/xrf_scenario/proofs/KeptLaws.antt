@@ -12,13 +12,13 @@ use Rattle.xrf_forms.specs.Reading.{line_of}
 use Rattle.xrf_forms.specs.Table.{parts_of, settings_of}
 use Rattle.xrf_forms.specs.declared.form.Form.{Form}
 use Rattle.xrf_forms.specs.declared.form.Form.TheVariants as form
-use Rattle.xrf_forms.specs.declared.form.Format.{Format}
+use Rattle.xrf_setup.specs.declared.format.Format.{Format}
 use Rattle.xrf_forms.specs.declared.line.Line.TheVariants.{Clt}
 use Rattle.xrf_forms.specs.declared.reason.Reason.{Reason}
 use Rattle.xrf_forms.specs.declared.reason.Reason.TheVariants.{BadByte, LongLine}
 use Rattle.xrf_forms.proofs.FoundLaws.{clt_found, is_clt_form}
-use Rattle.xrf_scenario.specs.Lines.{bytes_fault, is_text_byte}
-use Rattle.xrf_scenario.specs.Scenario.{IsKept, kept_text}
+use Rattle.xrf_scenario.specs.Lines.{bytes_fault}
+use Rattle.xrf_setup.specs.Commands.{is_text_byte, IsKept, kept_text}
 
 -- words of a form of the command list have no fault behind the first
 cancel-fault : (ws : List (List ℕ)) → AreOfForm (parts_of form.CltCancel) ws → fault_of (behind ws) ≡ None

@@ -7,6 +7,7 @@ pub mod BuiltLaws
 pub mod TakingLaws
 pub mod TextLaws
 pub mod StepLaws
+pub mod SettingsKept
 pub mod SettingLaws
 pub mod RecordLaws
 pub mod WorkLaws

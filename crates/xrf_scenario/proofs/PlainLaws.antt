@@ -4,18 +4,23 @@ use Rattle.std.specs.List.{AllByRecursion}
 use Rattle.xrf_base.specs.declared.items.Item.{Item}
 use Rattle.xrf_base.specs.declared.site.Site.TheVariants.{A, B}
 use Rattle.xrf_clt.specs.Kept.{Kept}
-use Rattle.xrf_forms.specs.declared.choice.Choice.{Choice}
-use Rattle.xrf_forms.specs.declared.form.Format.{Format}
-use Rattle.xrf_forms.specs.declared.form.Format.TheVariants.{One}
+use Rattle.xrf_setup.specs.declared.choice.Choice.{Choice}
+use Rattle.xrf_setup.specs.declared.format.Format.{Format}
+use Rattle.xrf_setup.specs.declared.format.Format.TheVariants.{One}
 use Rattle.xrf_forms.specs.declared.line.Line.TheVariants.{Record, Work, Plan, Choices, End}
 use Rattle.xrf_forms.specs.Plain.{IsPlain}
-use Rattle.xrf_forms.specs.LineText.{IsSetting, IsItemOf, line_text}
-use Rattle.xrf_forms.specs.Spelling.{choice_text, HasLine}
+use Rattle.xrf_forms.specs.LineText.{IsSetting, line_text}
+use Rattle.xrf_setup.specs.Items.{IsItemOf}
+use Rattle.xrf_forms.specs.Spelling.{choice_text}
+use Rattle.xrf_setup.specs.Choices.{HasLine}
 use Rattle.xrf_forms.proofs.LineAgain.{header_plain, setting_plain, choosing_plain, choice_plain}
 use Rattle.xrf_scenario.specs.Canonical.{records_said, clt_said, plan_said, scenario_lines, choice_lines, AreChoices}
-use Rattle.xrf_scenario.specs.Scenario.{Scen, IsScen, AreRecords, ArePlanned, IsKept, setting_lines, kept_text}
+use Rattle.xrf_setup.specs.Scenario.{Scen, IsScen, AreRecords, ArePlanned}
+use Rattle.xrf_setup.specs.Commands.{IsKept, kept_text}
+use Rattle.xrf_scenario.specs.SettingLines.{setting_lines}
 use Rattle.xrf_scenario.proofs.TextLaws.{all-both}
 use Rattle.xrf_scenario.proofs.CltLaws.{kept-plain}
+use Rattle.xrf_scenario.proofs.SettingsKept.{lines-are}
 
 -- each of some lines is plain
 abbrev ArePlain : List (List ℕ) → Type 0
@@ -51,13 +56,13 @@ all-six P a b c d e f of-a of-b of-c of-d of-e of-f =
 
 -- FILE is at most 256
 pub file-most : (s : Scen) → IsScen s → s.settings.file ≤ 256
-file-most s is = is.settings.1.1.1.1.1.1.1.0.1
+file-most s is = is.settings.file.1
 
 -- The lines of a scenario are plain.
 pub scenario-plain : (s : Scen) → IsScen s → ArePlain (scenario_lines s)
 scenario-plain s is =
     let format : Format = s.settings.format in
-    let settings = all-plain (IsSetting format) line_text (setting_plain format) (setting_lines s.settings) is.settings in
+    let settings = all-plain (IsSetting format) line_text (setting_plain format) (setting_lines s.settings) (lines-are s.settings is.settings) in
     let records = records-plain format 1 s.settings.file s.records (omega arith) (file-most s is) is.records in
     let clt = all-plain IsKept (λ (k : Kept). codes "CLT " ++ kept_text k) kept-plain s.clt is.clt in
     let work_a = all-plain (IsItemOf format) (λ (i : Item). line_text (Work A i)) (λ (i : Item). setting_plain format (Work A i)) s.work_a is.work_a in

@@ -6,17 +6,17 @@ use Rattle.xrf_forms.proofs.FormLaws.{line-found}
 use Rattle.xrf_forms.proofs.LineAgain.{header_again}
 use Rattle.xrf_forms.specs.Reading.{header_of, line_of}
 use Rattle.xrf_forms.specs.Table.{settings_of, choices_table}
-use Rattle.xrf_forms.specs.declared.form.Format.{Format}
+use Rattle.xrf_setup.specs.declared.format.Format.{Format}
 use Rattle.xrf_forms.specs.declared.line.Line.{Line}
 use Rattle.xrf_forms.specs.declared.reason.Reason.{Reason}
 use Rattle.xrf_forms.specs.declared.reason.Reason.TheVariants.{AfterEnd, NoEnd}
 use Rattle.xrf_scenario.proofs.ReasonLaws.{header-found, refused-first, first-refused}
 use Rattle.xrf_scenario.specs.Built.{allows, allows_format}
 use Rattle.xrf_scenario.specs.Lines.{text_lines, is_skipped, is_report, bytes_fault}
-use Rattle.xrf_scenario.specs.Machine.{Fault, read_on, read_whole}
+use Rattle.xrf_scenario.specs.Machine.{Fault, read_on, read_whole, if_built, take_line, take_header, take_words, step}
 use Rattle.xrf_scenario.specs.Reading.{begun, SaysIn, SaysThen, Says, SaysAll, Reads, told, HasBadLine, EndsEarly, HasBad, OneReading, NeverBoth, OneFault}
-use Rattle.xrf_scenario.specs.Machine.{if_built, take_line, take_header, take_words, step}
-use Rattle.xrf_scenario.specs.Scenario.{Scen, scenario_of}
+use Rattle.xrf_setup.specs.Scenario.{Scen}
+use Rattle.xrf_scenario.specs.Settled.{scenario_of}
 use Rattle.xrf_scenario.specs.SoFar.{SoFar, nothing_said, is_whole}
 use Rattle.xrf_scenario.specs.Taking.{take}
 use Rattle.xrf_scenario.specs.declared.built.Forms.{Forms}

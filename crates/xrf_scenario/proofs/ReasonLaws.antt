@@ -14,8 +14,8 @@ use Rattle.xrf_forms.specs.Places.{first, second, behind}
 use Rattle.xrf_forms.specs.Reading.{header_of, line_of, are_two}
 use Rattle.xrf_forms.specs.Reasons.{rank}
 use Rattle.xrf_forms.specs.declared.form.Form.{Form}
-use Rattle.xrf_forms.specs.declared.form.Format.{Format}
-use Rattle.xrf_forms.specs.declared.form.Format.TheVariants.{One, Two}
+use Rattle.xrf_setup.specs.declared.format.Format.{Format}
+use Rattle.xrf_setup.specs.declared.format.Format.TheVariants.{One, Two}
 use Rattle.xrf_forms.specs.declared.line.Line.{Line}
 use Rattle.xrf_forms.specs.declared.line.Line.TheVariants.{Applid, Takeovr, Adi, Pdi, Log, Ring, File, Pace, Ticks, Images, Level, Xrfsoff, Record, Clt, Work, Plan, Choices, Once, Times, End}
 use Rattle.xrf_forms.specs.declared.reason.Reason.{Reason}
@@ -24,7 +24,8 @@ use Rattle.xrf_forms.proofs.ApartLaws.{are_apart, line-again, settings-apart, ch
 use Rattle.xrf_forms.proofs.FaultLaws.{IsLineTold, line-told, form_passes, one-first, words-told, settings-pass, choices-pass}
 use Rattle.xrf_forms.proofs.FormLaws.{line-found}
 use Rattle.xrf_scenario.specs.Built.{allows, allows_format}
-use Rattle.xrf_scenario.specs.Lines.{is_skipped, is_report, is_text_byte, bytes_fault}
+use Rattle.xrf_scenario.specs.Lines.{is_skipped, is_report, bytes_fault}
+use Rattle.xrf_setup.specs.Commands.{is_text_byte}
 use Rattle.xrf_scenario.specs.Reading.{begun}
 use Rattle.xrf_scenario.specs.Machine.{if_built, take_line, take_header, take_words, step}
 use Rattle.xrf_scenario.specs.Reasons.{header_words, forms_of, has_forms, SpellsNext, is_given, is_over, falls, is_outside, SpellsBad, HoldsOfText, Holds}

@@ -7,7 +7,8 @@ use Rattle.xrf_forms.specs.LineText.{line_text}
 use Rattle.xrf_forms.specs.declared.line.Line.TheVariants.{Record}
 use Rattle.xrf_scenario.specs.Canonical.{records_said}
 use Rattle.xrf_scenario.specs.Reading.{SaysAll}
-use Rattle.xrf_scenario.specs.Scenario.{AreRecords, by_number}
+use Rattle.xrf_setup.specs.Scenario.{AreRecords}
+use Rattle.xrf_scenario.specs.Settled.{by_number}
 use Rattle.xrf_scenario.specs.SoFar.{SoFar}
 use Rattle.xrf_scenario.specs.Taking.{take, free_record}
 use Rattle.xrf_scenario.specs.declared.built.Forms.{Forms}

@@ -6,15 +6,16 @@ use Rattle.xrf_base.specs.Values.{IsValue}
 use Rattle.xrf_base.specs.declared.site.Site.TheVariants.{A, B}
 use Rattle.xrf_clt.specs.Lines.{words_kept}
 use Rattle.xrf_text.specs.Text.{words}
-use Rattle.xrf_forms.specs.LineText.{IsItemOf, IsSetting, IsChoosing, is_planned, is_timed}
+use Rattle.xrf_setup.specs.Items.{IsItemOf}
+use Rattle.xrf_forms.specs.LineText.{IsSetting, IsChoosing, is_timed}
+use Rattle.xrf_setup.specs.Choices.{is_planned, HasLine}
 use Rattle.xrf_forms.specs.Places.{behind}
 use Rattle.xrf_forms.specs.Reading.{line_of}
-use Rattle.xrf_forms.specs.Spelling.{HasLine}
 use Rattle.xrf_forms.specs.Table.{settings_of, choices_table}
-use Rattle.xrf_forms.specs.declared.choice.Choice.{Choice}
-use Rattle.xrf_forms.specs.declared.choice.Choice.TheVariants as choice
-use Rattle.xrf_forms.specs.declared.form.Format.{Format}
-use Rattle.xrf_forms.specs.declared.form.Format.TheVariants.{One, Two}
+use Rattle.xrf_setup.specs.declared.choice.Choice.{Choice}
+use Rattle.xrf_setup.specs.declared.choice.Choice.TheVariants as choice
+use Rattle.xrf_setup.specs.declared.format.Format.{Format}
+use Rattle.xrf_setup.specs.declared.format.Format.TheVariants.{One, Two}
 use Rattle.xrf_forms.specs.declared.line.Line.{Line}
 use Rattle.xrf_forms.specs.declared.line.Line.TheVariants.{Applid, Takeovr, Adi, Pdi, Log, Ring, File, Pace, Ticks, Images, Level, Xrfsoff, Record, Clt, Work, Plan, Choices, Once, Times, End}
 use Rattle.xrf_forms.specs.declared.reason.Reason.{Reason}
@@ -25,7 +26,10 @@ use Rattle.xrf_scenario.specs.Lines.{is_skipped, bytes_fault}
 use Rattle.xrf_scenario.specs.Reading.{begun, SaysIn, SaysThen}
 use Rattle.xrf_scenario.specs.Machine.{step}
 use Rattle.xrf_scenario.specs.Said.{IsLineSaid, is_past, IsGiven, IsFresh, IsSaid}
-use Rattle.xrf_scenario.specs.Scenario.{IsScen, IsKept, AreLevels, AreRecords, ArePlanned, by_number, level_lines, scenario_of, setting_lines, settled}
+use Rattle.xrf_setup.specs.Scenario.{IsScen, AreRecords, ArePlanned}
+use Rattle.xrf_setup.specs.Commands.{IsKept}
+use Rattle.xrf_setup.specs.Settings.{AreSettings, AreLevels}
+use Rattle.xrf_scenario.specs.Settled.{by_number, scenario_of, settled}
 use Rattle.xrf_scenario.specs.SoFar.{SoFar, nothing_given, nothing_said, is_whole, file_said}
 use Rattle.xrf_scenario.specs.Taking.{once, with_room, free_record, last_tick, numbered, are_within, take_setting, take}
 use Rattle.xrf_scenario.specs.declared.built.Forms.{Forms}
@@ -35,6 +39,7 @@ use Rattle.xrf_scenario.specs.declared.given.Part.TheVariants.{Start, Settings, 
 use Rattle.xrf_scenario.specs.declared.numbered.Numbered.{Numbered}
 use Rattle.xrf_scenario.proofs.KeptLaws.{clt-fault, clt-kept}
 use Rattle.xrf_scenario.proofs.ReadingLaws.{step-says}
+use Rattle.xrf_scenario.proofs.SettingsKept.{multiple-units}
 
 -- what is known of a line before the choices
 line-said : (format : Format) (ws : List (List ℕ)) (l : Line) → IsSetting format l → IsLineSaid format ws l
@@ -336,52 +341,6 @@ given-or : {X : Type 0} (P : X → Type 0) (o : Option X) (default : X) → IfSo
 given-or P None default is d = d
 given-or P (Some x) default is d = is
 
-levels-said : (format : Format) (given : Given) → IsGiven format given → AllByRecursion (IsSetting format) (level_lines format (settled format given))
-levels-said One given is = tt
-levels-said Two given is = (
-  given-or (λ n. IsSetting Two (Level A n)) given.level_a 2 is.level_a (refl, (omega arith, omega arith)),
-  (
-    given-or (λ n. IsSetting Two (Level B n)) given.level_b 2 is.level_b (refl, (omega arith, omega arith)),
-    (given-or (λ force. IsSetting Two (Xrfsoff force)) given.force false is.force refl, tt),
-  ),
-)
-
-settings-said : (format : Format) (given : Given) → IsGiven format given → AllByRecursion (IsSetting format) (setting_lines (settled format given))
-settings-said format given is = (
-  given-or (λ name. IsSetting format (Applid A name)) given.applid_a (codes "CICSA") is.applid_a refl,
-  (
-    given-or (λ name. IsSetting format (Applid B name)) given.applid_b (codes "CICSB") is.applid_b refl,
-    (
-      tt,
-      (
-        given-or (λ n. IsSetting format (Adi n)) given.adi 30 is.adi (omega arith, omega arith),
-        (
-          given-or (λ n. IsSetting format (Pdi n)) given.pdi 30 is.pdi (omega arith, omega arith),
-          (
-            given-or (λ n. IsSetting format (Log n)) given.log 64 is.log ((omega arith, omega arith), refl),
-            (
-              given-or (λ n. IsSetting format (Ring n)) given.ring 16 is.ring (omega arith, omega arith),
-              (
-                given-or (λ n. IsSetting format (File n)) given.file 16 is.file (omega arith, omega arith),
-                (
-                  given-or (λ n. IsSetting format (Pace n)) given.pace 40 is.pace (omega arith, omega arith),
-                  (
-                    given-or (λ n. IsSetting format (Ticks n)) given.ticks 60 is.ticks (omega arith, omega arith),
-                    (
-                      tt,
-                      levels-said format given is,
-                    ),
-                  ),
-                ),
-              ),
-            ),
-          ),
-        ),
-      ),
-    ),
-  ),
-)
-
 -- XRF 1 has no levels
 no-force : (force : Option Bool) → IfSome force (λ f. IsSetting One (Xrfsoff f)) → unwrap_or force false ≡ false
 no-force None is = refl
@@ -390,6 +349,24 @@ no-force (Some f) is = let clash : One ≡ Two = is in absurd (cc)
 format-levels : (format : Format) (given : Given) → IsGiven format given → AreLevels format (settled format given)
 format-levels One given is = (refl, refl, no-force given.force is.force)
 format-levels Two given is = tt
+
+-- the settings of what is said are within their ranges
+settings-said : (format : Format) (given : Given) → IsGiven format given → AreSettings (settled format given)
+settings-said format given is =
+    let log = given-or (λ n. IsSetting format (Log n)) given.log 64 is.log ((omega arith, omega arith), refl) in
+    record {
+      applid_a = given-or (λ name. IsSetting format (Applid A name)) given.applid_a (codes "CICSA") is.applid_a refl;
+      applid_b = given-or (λ name. IsSetting format (Applid B name)) given.applid_b (codes "CICSB") is.applid_b refl;
+      adi = given-or (λ n. IsSetting format (Adi n)) given.adi 30 is.adi (omega arith, omega arith);
+      pdi = given-or (λ n. IsSetting format (Pdi n)) given.pdi 30 is.pdi (omega arith, omega arith);
+      log = log.0;
+      log_units = multiple-units (unwrap_or given.log 64) log.1;
+      ring = given-or (λ n. IsSetting format (Ring n)) given.ring 16 is.ring (omega arith, omega arith);
+      file = given-or (λ n. IsSetting format (File n)) given.file 16 is.file (omega arith, omega arith);
+      pace = given-or (λ n. IsSetting format (Pace n)) given.pace 40 is.pace (omega arith, omega arith);
+      ticks = given-or (λ n. IsSetting format (Ticks n)) given.ticks 60 is.ticks (omega arith, omega arith);
+      levels = format-levels format given is;
+    }
 
 -- records from a number on are records from a smaller one on
 from-less : (less least most : ℕ) (rs : List (ℕ × List ℕ)) → less ≤ least → AreRecords least most rs → AreRecords less most rs
@@ -415,7 +392,6 @@ records-said (suc room) number most (Some value ∷ places) sum values all =
 pub scen-said : (so : SoFar) → IsSaid so → is_whole so.part ≡ true → IsScen (scenario_of so)
 scen-said so said whole = record {
   settings = settings-said so.format so.given said.given;
-  levels = format-levels so.format so.given said.given;
   records = records-said (file_said so) 1 (file_said so) so.records (omega arith) said.values (said.within (past so.part whole));
   clt = said.clt;
   clt_few = said.clt_few;

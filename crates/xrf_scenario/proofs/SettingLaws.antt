@@ -2,22 +2,27 @@
 use Rattle.std.proofs.Common.{◌≡◌, ℕ, true, IsTrue, Bool, Option, Some, None, Ok, List, [], ◌∷◌, ◌+◌, map, refl, ap, ◌∙◌}
 use Rattle.std.specs.List.{AllByRecursion}
 use Rattle.xrf_base.specs.declared.site.Site.TheVariants.{A, B}
+use Rattle.xrf_ctl.specs.declared.parts.Level.{Level as Program}
+use Rattle.xrf_ctl.specs.declared.parts.Level.TheVariants as level
 use Rattle.xrf_text.specs.Text.{words}
-use Rattle.xrf_forms.specs.declared.form.Format.{Format}
-use Rattle.xrf_forms.specs.declared.form.Format.TheVariants.{One, Two}
+use Rattle.xrf_setup.specs.declared.format.Format.{Format}
+use Rattle.xrf_setup.specs.declared.format.Format.TheVariants.{One, Two}
 use Rattle.xrf_forms.specs.declared.line.Line.{Line}
 use Rattle.xrf_forms.specs.declared.line.Line.TheVariants.{Applid, Takeovr, Adi, Pdi, Log, Ring, File, Pace, Ticks, Images, Level, Xrfsoff}
 use Rattle.xrf_forms.specs.LineText.{IsSetting, line_text}
 use Rattle.xrf_scenario.specs.Built.{is_built, allows}
 use Rattle.xrf_scenario.specs.Reading.{SaysAll}
-use Rattle.xrf_scenario.specs.Scenario.{level_lines, setting_lines, AreLevels, settled}
+use Rattle.xrf_scenario.specs.SettingLines.{level_number, level_lines, setting_lines}
+use Rattle.xrf_setup.specs.Settings.{AreLevels}
+use Rattle.xrf_scenario.specs.Settled.{level_named, settled}
 use Rattle.xrf_scenario.specs.SoFar.{SoFar, nothing_given}
 use Rattle.xrf_scenario.specs.Taking.{take}
 use Rattle.xrf_scenario.specs.declared.built.Forms.{Forms}
 use Rattle.xrf_scenario.specs.declared.built.Forms.TheVariants.{All, Built}
 use Rattle.xrf_scenario.specs.declared.given.Given.{Given}
 use Rattle.xrf_scenario.specs.declared.given.Part.TheVariants as part
-use Rattle.xrf_scenario.specs.declared.settings.Settings.{Settings}
+use Rattle.xrf_setup.specs.declared.settings.Settings.{Settings}
+use Rattle.xrf_scenario.proofs.SettingsKept.{level-again}
 use Rattle.xrf_scenario.proofs.StepLaws.{setting-written}
 
 -- what is given where all settings but the levels are
@@ -46,7 +51,7 @@ under_two Two x = Some x
 
 -- what is given where all settings are
 abbrev pub given_of : Format → Settings → Given
-given_of format t = record (without_levels t) { level_a = under_two format t.level_a; level_b = under_two format t.level_b; force = under_two format t.force }
+given_of format t = record (without_levels t) { level_a = under_two format (level_number t.level_a); level_b = under_two format (level_number t.level_b); force = under_two format t.force }
 
 -- what is said, with other settings
 abbrev pub with_given : SoFar → Given → SoFar
@@ -77,14 +82,14 @@ levels-give : (forms : Forms) (so : SoFar) (format : Format) (t : Settings) → 
 levels-give forms so One t part are = λ count. refl
 levels-give forms so Two t part are =
     let g0 : Given = without_levels t in
-    let g1 : Given = record g0 { level_a = Some t.level_a } in
-    let g2 : Given = record g1 { level_b = Some t.level_b } in
+    let g1 : Given = record g0 { level_a = Some (level_number t.level_a) } in
+    let g2 : Given = record g1 { level_b = Some (level_number t.level_b) } in
     let g3 : Given = record g2 { force = Some t.force } in
     let s3 : Give forms so g3 [] g3 = λ count. refl in
     let s2 : Give forms so g2 (Xrfsoff t.force ∷ []) g3 = gives forms so (Xrfsoff t.force) [] g2 g3 g3 part are.1.1.0 (built-allowed forms _ _ refl) (λ number. refl) s3 in
-    let s1 : Give forms so g1 (Level B t.level_b ∷ Xrfsoff t.force ∷ []) g3 =
-    gives forms so (Level B t.level_b) (Xrfsoff t.force ∷ []) g1 g2 g3 part are.1.0 (built-allowed forms _ _ refl) (λ number. refl) s2 in
-    gives forms so (Level A t.level_a) (Level B t.level_b ∷ Xrfsoff t.force ∷ []) g0 g1 g3 part are.0 (built-allowed forms _ _ refl) (λ number. refl) s1
+    let s1 : Give forms so g1 (Level B (level_number t.level_b) ∷ Xrfsoff t.force ∷ []) g3 =
+    gives forms so (Level B (level_number t.level_b)) (Xrfsoff t.force ∷ []) g1 g2 g3 part are.1.0 (built-allowed forms _ _ refl) (λ number. refl) s2 in
+    gives forms so (Level A (level_number t.level_a)) (Level B (level_number t.level_b) ∷ Xrfsoff t.force ∷ []) g0 g1 g3 part are.0 (built-allowed forms _ _ refl) (λ number. refl) s1
 
 -- What is written of the settings says all of them.
 pub settings-say : (forms : Forms) (count : ℕ) (so : SoFar) (t : Settings) → so.part ≡ part.Settings → AllByRecursion (IsSetting so.format) (setting_lines t)
@@ -141,11 +146,13 @@ settings-say forms count so t part are images =
 pub settled-again : (t : Settings) → AreLevels t.format t → t ≡ settled t.format (given_of t.format t)
 settled-again t = by t.format refl
   where
-    with : Format → ℕ → ℕ → Bool → Settings
+    with : Format → Program → Program → Bool → Settings
     with format level_a level_b force = record t { format = format; level_a = level_a; level_b = level_b; force = force }
 
     by : (format : Format) → t.format ≡ format → AreLevels format t → t ≡ settled format (given_of format t)
     by One e levels =
-        ap (λ (f : Format). with f t.level_a t.level_b t.force) e ∙ ap (λ (n : ℕ). with One n t.level_b t.force) levels.0
-        ∙ ap (λ (n : ℕ). with One 1 n t.force) levels.1 ∙ ap (with One 1 1) levels.2
-    by Two e levels = ap (λ (f : Format). with f t.level_a t.level_b t.force) e
+        ap (λ (f : Format). with f t.level_a t.level_b t.force) e ∙ ap (λ (l : Program). with One l t.level_b t.force) levels.0
+        ∙ ap (λ (l : Program). with One level.One l t.force) levels.1 ∙ ap (with One level.One level.One) levels.2
+    by Two e levels =
+        ap (λ (f : Format). with f t.level_a t.level_b t.force) e ∙ ap (λ (l : Program). with Two l t.level_b t.force) (level-again t.level_a)
+        ∙ ap (λ (l : Program). with Two (level_named (level_number t.level_a)) l t.force) (level-again t.level_b)

@@ -1,6 +1,6 @@
 -- What a line that was read adds to what is said.
 use Rattle.std.proofs.Common.{◌≡◌, ◌≤◌, ◌-◌, ℕ, List, [], ◌∷◌, length, get_or, refl, sym, ◌∙◌, ap, arith}
-use Rattle.xrf_forms.specs.declared.choice.Choice.{Choice}
+use Rattle.xrf_setup.specs.declared.choice.Choice.{Choice}
 use Rattle.xrf_scenario.specs.Taking.{last_tick}
 
 last_planned : (first : ℕ × Choice) (plan : List (ℕ × Choice)) (d : ℕ × Choice) → last_tick (first ∷ plan) ≡ (get_or (first ∷ plan) (length plan) d).0

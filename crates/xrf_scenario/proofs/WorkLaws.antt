@@ -10,15 +10,16 @@ use Rattle.xrf_base.specs.declared.items.Item.{Item}
 use Rattle.xrf_base.specs.declared.items.Item.TheVariants.{Begin, Put, Get, Commit, Roll, Logon, Logoff, Shutdown, ShutdownTakeover, Signon, Signoff}
 use Rattle.xrf_base.specs.declared.site.Site.TheVariants.{A, B}
 use Rattle.xrf_text.specs.Text.{words}
-use Rattle.xrf_forms.specs.declared.choice.Choice.{Choice}
+use Rattle.xrf_setup.specs.declared.choice.Choice.{Choice}
 use Rattle.xrf_forms.specs.declared.line.Line.TheVariants.{Work, Plan}
 use Rattle.xrf_forms.specs.declared.reason.Reason.TheVariants.{PlanOrder}
-use Rattle.xrf_forms.specs.LineText.{IsItemOf, is_planned, line_text}
-use Rattle.xrf_forms.specs.Spelling.{HasLine}
+use Rattle.xrf_setup.specs.Items.{IsItemOf}
+use Rattle.xrf_setup.specs.Choices.{is_planned, HasLine}
+use Rattle.xrf_forms.specs.LineText.{line_text}
 use Rattle.xrf_scenario.specs.Built.{allows}
 use Rattle.xrf_scenario.specs.Canonical.{plan_said}
 use Rattle.xrf_scenario.specs.Reading.{Says, SaysAll}
-use Rattle.xrf_scenario.specs.Scenario.{ArePlanned}
+use Rattle.xrf_setup.specs.Scenario.{ArePlanned}
 use Rattle.xrf_scenario.specs.SoFar.{SoFar}
 use Rattle.xrf_scenario.specs.Taking.{take, with_room, last_tick}
 use Rattle.xrf_scenario.specs.Work.{is_work, is_unit_rest, puts_in}

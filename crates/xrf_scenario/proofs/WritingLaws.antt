@@ -7,7 +7,9 @@ use Rattle.xrf_clt.specs.Kept.{Kept}
 use Rattle.xrf_forms.specs.LineText.{header_text, line_text}
 use Rattle.xrf_forms.specs.declared.line.Line.TheVariants.{Work}
 use Rattle.xrf_scenario.specs.Canonical.{fed, text_of, records_said, clt_said, plan_said, scenario_lines}
-use Rattle.xrf_scenario.specs.Scenario.{Scen, setting_lines, kept_text}
+use Rattle.xrf_setup.specs.Scenario.{Scen}
+use Rattle.xrf_scenario.specs.SettingLines.{setting_lines}
+use Rattle.xrf_setup.specs.Commands.{kept_text}
 use Rattle.xrf_scenario.proofs.TextLaws.{text-both}
 
 -- what is kept of one more line of the command list

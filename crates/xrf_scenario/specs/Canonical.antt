@@ -5,12 +5,16 @@ use Rattle.xrf_base.specs.declared.items.Item.{Item}
 use Rattle.xrf_base.specs.declared.site.Site.TheVariants.{A, B}
 use Rattle.xrf_clt.specs.Kept.{Kept}
 use Rattle.xrf_forms.specs.LineText.{header_text, line_text}
-use Rattle.xrf_forms.specs.Spelling.{choice_text, HasLine}
-use Rattle.xrf_forms.specs.declared.choice.Choice.{Choice}
+use Rattle.xrf_forms.specs.Spelling.{choice_text}
+use Rattle.xrf_setup.specs.Choices.{HasLine}
+use Rattle.xrf_setup.specs.declared.choice.Choice.{Choice}
+use Rattle.xrf_setup.specs.declared.ranges.TheConstants.{CHOICES_MOST}
 use Rattle.xrf_forms.specs.declared.line.Line.TheVariants.{Record, Work, Plan, Choices, End}
 use Rattle.xrf_scenario.specs.Built.{AreAllowed}
 use Rattle.xrf_scenario.specs.Reading.{Reads}
-use Rattle.xrf_scenario.specs.Scenario.{Scen, IsScen, setting_lines, kept_text}
+use Rattle.xrf_setup.specs.Scenario.{Scen, IsScen}
+use Rattle.xrf_scenario.specs.SettingLines.{setting_lines}
+use Rattle.xrf_setup.specs.Commands.{kept_line}
 use Rattle.xrf_scenario.specs.declared.built.Forms.{Forms}
 use Rattle.xrf_scenario.specs.Taking.{numbered}
 use Rattle.xrf_scenario.specs.declared.numbered.Numbered.{Numbered}
@@ -28,7 +32,7 @@ abbrev pub records_said : List (ℕ × List ℕ) → List (List ℕ)
 records_said records = map (λ (r : ℕ × List ℕ). line_text (Record r.0 r.1)) records
 
 abbrev pub clt_said : List Kept → List (List ℕ)
-clt_said clt = map (λ (k : Kept). codes "CLT " ++ kept_text k) clt
+clt_said clt = map kept_line clt
 
 abbrev pub plan_said : List (ℕ × Choice) → List (List ℕ)
 plan_said plan = map (λ (p : ℕ × Choice). line_text (Plan p.0 p.1)) plan
@@ -75,7 +79,7 @@ pub record IsReport (text : List ℕ) : Type 0 where
 -- choices that a text can hold
 pub record AreChoices (choices : List Choice) : Type 0 where
   pub each : AllByRecursion HasLine choices
-  pub few : length choices ≤ 8192
+  pub few : length choices ≤ CHOICES_MOST
 
 -- What is written of a scenario and its choices is read again as the same, also with a report behind it.
 abbrev pub ReadAgain : Type 0

@@ -2,7 +2,8 @@ pub mod Lines
 pub mod SoFar
 pub mod Taking
 pub mod Work
-pub mod Scenario
+pub mod SettingLines
+pub mod Settled
 pub mod Built
 pub mod Reasons
 pub mod Reading

@@ -1,9 +1,11 @@
 -- The lines of a scenario text, and which of them are skipped.
-use Rattle.std.specs.Prelude.{ℕ, Bool, true, false, ◌==◌, ◌&&◌, ◌||◌, not, nat_le, nat_lt, List, [], ◌∷◌, length, Option, Some, None, if◌then◌else◌}
+use Rattle.std.specs.Prelude.{ℕ, Bool, true, false, ◌==◌, ◌&&◌, ◌||◌, not, nat_lt, List, [], ◌∷◌, length, Option, Some, None, if◌then◌else◌}
 use Rattle.std.specs.List.{list_all}
 use Rattle.xrf_forms.specs.declared.reason.Reason.{Reason}
 use Rattle.xrf_forms.specs.declared.reason.Reason.TheVariants.{BadByte, LongLine}
 use Rattle.xrf_text.specs.Text.{lines, words}
+use Rattle.xrf_setup.specs.Commands.{is_text_byte}
+use Rattle.xrf_setup.specs.declared.ranges.TheConstants.{LINE_MOST}
 
 -- A carriage return (byte 13) before a line feed (byte 10) is dropped.
 abbrev pub without_returns : List ℕ → List ℕ
@@ -37,10 +39,6 @@ is_skipped line = begins_with 35 line || are_none (words line)
 abbrev pub is_report : List ℕ → Bool
 is_report line = begins_with 42 line
 
--- blank to `~`
-abbrev pub is_text_byte : ℕ → Bool
-is_text_byte byte = nat_le 32 byte && nat_le byte 126
-
 -- what is wrong with the bytes of a line
 abbrev pub bytes_fault : List ℕ → Option Reason
-bytes_fault line = if not (list_all is_text_byte line) then Some BadByte else if nat_lt 300 (length line) then Some LongLine else None
+bytes_fault line = if not (list_all is_text_byte line) then Some BadByte else if nat_lt LINE_MOST (length line) then Some LongLine else None

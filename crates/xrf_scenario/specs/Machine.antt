@@ -3,7 +3,7 @@ use Rattle.std.specs.Prelude.{ℕ, ◌+◌, max, Bool, true, false, List, [], �
 use Rattle.xrf_text.specs.Text.{words}
 use Rattle.xrf_forms.specs.Reading.{header_of, line_of}
 use Rattle.xrf_forms.specs.Table.{settings_of, choices_table}
-use Rattle.xrf_forms.specs.declared.form.Format.{Format}
+use Rattle.xrf_setup.specs.declared.format.Format.{Format}
 use Rattle.xrf_forms.specs.declared.line.Line.{Line}
 use Rattle.xrf_forms.specs.declared.reason.Reason.{Reason}
 use Rattle.xrf_forms.specs.declared.reason.Reason.TheVariants.{AfterEnd, NoEnd, NotBuilt}

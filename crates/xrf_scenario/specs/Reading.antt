@@ -4,14 +4,15 @@ use Rattle.xrf_text.specs.Text.{words}
 use Rattle.xrf_forms.specs.Faults.{IsFirst}
 use Rattle.xrf_forms.specs.Grammar.{Spells}
 use Rattle.xrf_forms.specs.Table.{settings_of, choices_table}
-use Rattle.xrf_forms.specs.declared.form.Format.{Format}
+use Rattle.xrf_setup.specs.declared.format.Format.{Format}
 use Rattle.xrf_forms.specs.declared.line.Line.{Line}
 use Rattle.xrf_forms.specs.declared.reason.Reason.{Reason}
 use Rattle.xrf_forms.specs.declared.reason.Reason.TheVariants.{NoEnd, NotBuilt}
 use Rattle.xrf_scenario.specs.Built.{allows, allows_format}
 use Rattle.xrf_scenario.specs.Lines.{text_lines, is_skipped, is_report, bytes_fault}
 use Rattle.xrf_scenario.specs.Reasons.{Holds, header_words}
-use Rattle.xrf_scenario.specs.Scenario.{Scen, scenario_of}
+use Rattle.xrf_setup.specs.Scenario.{Scen}
+use Rattle.xrf_scenario.specs.Settled.{scenario_of}
 use Rattle.xrf_scenario.specs.SoFar.{SoFar, nothing_said, is_whole}
 use Rattle.xrf_scenario.specs.Taking.{take}
 use Rattle.xrf_scenario.specs.declared.built.Forms.{Forms}

@@ -4,13 +4,16 @@ use Rattle.std.specs.List.{AllByRecursion}
 use Rattle.xrf_base.specs.Values.{IsValue}
 use Rattle.xrf_base.specs.declared.site.Site.TheVariants.{A, B}
 use Rattle.xrf_clt.specs.Lines.{fault_of, words_kept}
-use Rattle.xrf_forms.specs.LineText.{IsSetting, IsChoosing, IsItemOf}
+use Rattle.xrf_forms.specs.LineText.{IsSetting, IsChoosing}
+use Rattle.xrf_setup.specs.Items.{IsItemOf}
 use Rattle.xrf_forms.specs.Places.{behind}
-use Rattle.xrf_forms.specs.Spelling.{HasLine}
-use Rattle.xrf_forms.specs.declared.form.Format.{Format}
+use Rattle.xrf_setup.specs.Choices.{HasLine}
+use Rattle.xrf_setup.specs.declared.format.Format.{Format}
+use Rattle.xrf_setup.specs.declared.ranges.TheConstants.{FILE_MOST, CLT_MOST, ITEMS_MOST, PLAN_MOST, CHOICES_MOST}
 use Rattle.xrf_forms.specs.declared.line.Line.{Line}
 use Rattle.xrf_forms.specs.declared.line.Line.TheVariants.{Applid, Adi, Pdi, Log, Ring, File, Pace, Ticks, Level, Xrfsoff, Clt, Once, Times, End}
-use Rattle.xrf_scenario.specs.Scenario.{ArePlanned, IsKept}
+use Rattle.xrf_setup.specs.Scenario.{ArePlanned}
+use Rattle.xrf_setup.specs.Commands.{IsKept}
 use Rattle.xrf_scenario.specs.SoFar.{SoFar, nothing_given}
 use Rattle.xrf_scenario.specs.Taking.{are_within}
 use Rattle.xrf_scenario.specs.declared.given.Given.{Given}
@@ -55,16 +58,16 @@ IsFresh _ so = Unit {0}
 pub record IsSaid (so : SoFar) : Type 0 where
   pub fresh : IsFresh so.part so
   pub given : IsGiven so.format so.given
-  pub places : length so.records ≡ 256
+  pub places : length so.records ≡ FILE_MOST
   pub values : AllByRecursion (λ place. IfSome place IsValue) so.records
   pub clt : AllByRecursion IsKept so.clt
-  pub clt_few : length so.clt ≤ 100
+  pub clt_few : length so.clt ≤ CLT_MOST
   pub work_a : AllByRecursion (IsItemOf so.format) so.work_a
-  pub work_a_few : length so.work_a ≤ 2000
+  pub work_a_few : length so.work_a ≤ ITEMS_MOST
   pub work_b : AllByRecursion (IsItemOf so.format) so.work_b
-  pub work_b_few : length so.work_b ≤ 2000
+  pub work_b_few : length so.work_b ≤ ITEMS_MOST
   pub plan : ArePlanned 0 so.plan
-  pub plan_few : length so.plan ≤ 500
+  pub plan_few : length so.plan ≤ PLAN_MOST
   pub choices : AllByRecursion (λ (n : Numbered). HasLine n.choice) so.choices
-  pub choices_few : length so.choices ≤ 8192
+  pub choices_few : length so.choices ≤ CHOICES_MOST
   pub within : is_past so.part ≡ true → are_within so ≡ true

@@ -2,9 +2,10 @@
 use Rattle.std.specs.Prelude.{ℕ, Bool, true, false, List, [], replicate, Option, None, unwrap_or}
 use Rattle.xrf_base.specs.declared.items.Item.{Item}
 use Rattle.xrf_clt.specs.Kept.{Kept}
-use Rattle.xrf_forms.specs.declared.choice.Choice.{Choice}
-use Rattle.xrf_forms.specs.declared.form.Format.{Format}
-use Rattle.xrf_forms.specs.declared.form.Format.TheVariants.{One}
+use Rattle.xrf_setup.specs.declared.choice.Choice.{Choice}
+use Rattle.xrf_setup.specs.declared.ranges.TheConstants.{FILE_MOST}
+use Rattle.xrf_setup.specs.declared.format.Format.{Format}
+use Rattle.xrf_setup.specs.declared.format.Format.TheVariants.{One}
 use Rattle.xrf_scenario.specs.declared.given.Given.{Given}
 use Rattle.xrf_scenario.specs.declared.given.Part.{Part}
 use Rattle.xrf_scenario.specs.declared.given.Part.TheVariants.{Start, Whole}
@@ -16,7 +17,7 @@ pub record SoFar : Type 0 where
   pub format : Format
   -- the settings that lines gave
   pub given : Given
-  -- 256 places: record n stands at n - 1
+  -- a place for each record there may be: record n stands at n - 1
   pub records : List (Option (List ℕ))
   pub clt : List Kept
   pub work_a : List Item
@@ -30,7 +31,7 @@ nothing_given = record { applid_a = None; applid_b = None; takeovr = None; adi =
 
 -- before the first line
 abbrev pub nothing_said : SoFar
-nothing_said = record { part = Start; format = One; given = nothing_given; records = replicate 256 None; clt = []; work_a = []; work_b = []; plan = []; choices = [] }
+nothing_said = record { part = Start; format = One; given = nothing_given; records = replicate FILE_MOST None; clt = []; work_a = []; work_b = []; plan = []; choices = [] }
 
 abbrev pub is_whole : Part → Bool
 is_whole Whole = true

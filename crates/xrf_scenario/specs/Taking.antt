@@ -5,7 +5,8 @@ use Rattle.xrf_base.specs.declared.items.Item.{Item}
 use Rattle.xrf_base.specs.declared.site.Site.TheVariants.{A, B}
 use Rattle.xrf_clt.specs.Lines.{words_kept}
 use Rattle.xrf_forms.specs.Places.{behind}
-use Rattle.xrf_forms.specs.declared.choice.Choice.{Choice}
+use Rattle.xrf_setup.specs.declared.choice.Choice.{Choice}
+use Rattle.xrf_setup.specs.declared.ranges.TheConstants.{CLT_MOST, ITEMS_MOST, PLAN_MOST, CHOICES_MOST}
 use Rattle.xrf_forms.specs.declared.line.Line.{Line}
 use Rattle.xrf_forms.specs.declared.line.Line.TheVariants.{Applid, Takeovr, Adi, Pdi, Log, Ring, File, Pace, Ticks, Images, Level, Xrfsoff, Record, Clt, Work, Plan, Choices, Once, Times, End}
 use Rattle.xrf_forms.specs.declared.reason.Reason.{Reason}
@@ -54,16 +55,16 @@ is_early so tick = nat_lt tick (last_tick so.plan)
 -- room for one more line of the command list, for one more item of a site, for one more planned
 -- choice, and for so many more choices
 abbrev pub has_clt_room : SoFar → Bool
-has_clt_room so = nat_lt (length so.clt) 100
+has_clt_room so = nat_lt (length so.clt) CLT_MOST
 
 abbrev pub has_work_room : List Item → Bool
-has_work_room items = nat_lt (length items) 2000
+has_work_room items = nat_lt (length items) ITEMS_MOST
 
 abbrev pub has_plan_room : SoFar → Bool
-has_plan_room so = nat_lt (length so.plan) 500
+has_plan_room so = nat_lt (length so.plan) PLAN_MOST
 
 abbrev pub has_choice_room : SoFar → ℕ → Bool
-has_choice_room so count = nat_le (length so.choices + count) 8192
+has_choice_room so count = nat_le (length so.choices + count) CHOICES_MOST
 
 -- the settings, each once
 abbrev pub take_setting : SoFar → Given → Line → Result SoFar Reason

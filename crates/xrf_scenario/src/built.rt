@@ -1,7 +1,7 @@
 //! Which lines the program runs today.
 
 ghost use Rattle.std.specs.Prelude.{◌≡◌, ℕ, List};
-ghost use Rattle.xrf_forms.specs.Spelling.{HasItem};
+ghost use Rattle.xrf_setup.specs.Items.{HasItem};
 ghost use Rattle.xrf_forms.specs.declared.line.Line.TheVariants.{Work};
 ghost use Rattle.xrf_scenario.specs.Built.{allows_format, allows, is_built, is_built_choice};
 ghost use Rattle.xrf_scenario.specs.Held.{said};
@@ -10,7 +10,8 @@ ghost use Rattle.xrf_scenario.specs.Said.{IsSaid, IsLineSaid};
 use crate::reading::Reading;
 use crate::work::{goes_on, put_count, puts_in};
 use xrf_base::{Item, Site};
-use xrf_forms::{Choice, Format, Line};
+use xrf_forms::Line;
+use xrf_setup::{Choice, Format};
 
 /// Which lines a text may have.
 #[derive(Clone, Copy, Debug, PartialEq, Eq)]

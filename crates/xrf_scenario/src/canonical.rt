@@ -5,19 +5,21 @@ ghost use Rattle.xrf_base.specs.declared.items.Item.{Item};
 ghost use Rattle.xrf_clt.specs.Kept.{Kept};
 ghost use Rattle.xrf_forms.specs.LineText.{header_text, line_text};
 ghost use Rattle.xrf_forms.specs.Spelling.{choice_text};
-ghost use Rattle.xrf_forms.specs.declared.choice.Choice.{Choice};
+ghost use Rattle.xrf_setup.specs.declared.choice.Choice.{Choice};
 ghost use Rattle.xrf_forms.specs.declared.line.Line.TheVariants.{Work, Plan};
 ghost use Rattle.xrf_scenario.specs.Canonical.{fed, text_of, records_said, clt_said, plan_said, scenario_lines, choice_lines, canon, ReadAgain};
-ghost use Rattle.xrf_scenario.specs.Scenario.{IsScen, setting_lines, level_lines, kept_text};
+ghost use Rattle.xrf_setup.specs.Scenario.{IsScen};
+ghost use Rattle.xrf_scenario.specs.SettingLines.{setting_lines, level_lines, SettingsAreLines};
+ghost use Rattle.xrf_setup.specs.Commands.{kept_text};
 
-use crate::scenario::Scenario;
-use crate::settings::Settings;
+use crate::level::level_number;
 use std::alloc::{AllocError, Global};
 use xrf_base::{Item, Site, Tick, Value};
 use xrf_clt::Clt;
 use xrf_forms::writing::Piece::{Number, Text};
 use xrf_forms::writing::put;
-use xrf_forms::{Choice, Format, Line, put_choice, put_header, put_line};
+use xrf_forms::{Line, put_choice, put_header, put_line};
+use xrf_setup::{Choice, Format, Scenario, Settings};
 
 fn put_feed(out: &mut Vec<u8>) -> Result<(), AllocError>
     ensures { OnOk result (out.new.items ≡ out.old.items ++ 10 ∷ []) }
@@ -51,8 +53,8 @@ fn put_levels(alloc: Global, out: &mut Vec<u8>, settings: &Settings) -> Result<(
             alloc,
             out,
             &[
-                Line::Level(Site::A, settings.level_a),
-                Line::Level(Site::B, settings.level_b),
+                Line::Level(Site::A, level_number(settings.level_a)),
+                Line::Level(Site::B, level_number(settings.level_b)),
                 Line::Xrfsoff(settings.force),
             ],
         ),
@@ -228,4 +230,10 @@ pub fn write(alloc: Global, scenario: &Scenario, choices: &[Choice]) -> Result<V
 /// a report behind it.
 pub fn read_again()
     ensures { ReadAgain }
+{}
+
+/// Settings are within their ranges exactly where a text can spell their lines, and their levels are
+/// those of the format.
+pub fn settings_are_lines()
+    ensures { SettingsAreLines }
 {}

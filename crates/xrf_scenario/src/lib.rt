@@ -5,13 +5,12 @@
 mod built;
 mod canonical;
 mod given;
+mod level;
 mod lines;
 mod numbered;
 mod read_bad;
 mod reading;
-mod scenario;
 mod setting;
-mod settings;
 mod settled;
 mod stepping;
 mod stop;
@@ -20,13 +19,12 @@ mod text;
 mod work;
 
 pub use built::Forms;
-pub use canonical::{put_canonical, read_again, write};
+pub use canonical::{put_canonical, read_again, settings_are_lines, write};
 pub use numbered::Numbered;
 pub use read_bad::ReadBad;
-pub use scenario::Scenario;
-pub use settings::Settings;
 pub use text::{one_reading, read, read_forms};
-pub use xrf_forms::{Choice, Format, Landing, Reason, TornBytes};
+pub use xrf_forms::Reason;
+pub use xrf_setup::{Choice, Format, Landing, Scenario, Settings, TornBytes};
 
 #[cfg(test)]
 mod line_tests;

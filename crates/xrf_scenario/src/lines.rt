@@ -3,9 +3,11 @@
 ghost use Rattle.std.specs.Prelude.{◌≡◌, ◌+◌, ◌<◌, ◌≤◌, ◌∷◌, [], length, drop, MatchOption, IfSome};
 ghost use Rattle.std.specs.List.{position, list_all};
 ghost use Rattle.xrf_text.specs.Text.{is_line_feed, words};
-ghost use Rattle.xrf_scenario.specs.Lines.{text_lines, without_return, begins_with, are_none, is_skipped, is_report, is_text_byte, bytes_fault};
+ghost use Rattle.xrf_scenario.specs.Lines.{text_lines, without_return, begins_with, are_none, is_skipped, is_report, bytes_fault};
+ghost use Rattle.xrf_setup.specs.Commands.{is_text_byte};
 
 use xrf_forms::Reason;
+use xrf_setup::ranges::LINE_MOST;
 use xrf_text::split_word;
 
 fn first_feed(text: &[u8]) -> Option<usize>
@@ -90,7 +92,7 @@ pub fn bytes_fault(line: &[u8]) -> Option<Reason>
     if !is_text(line) {
         return Some(Reason::BadByte);
     }
-    if line.len() > 300 {
+    if line.len() > LINE_MOST {
         return Some(Reason::LongLine);
     }
     None

@@ -1,6 +1,6 @@
 //! A choice with its line.
 
-use xrf_forms::Choice;
+use xrf_setup::Choice;
 
 /// A choice and the number of its line, from 1.
 #[derive(Clone, Copy)]

@@ -8,7 +8,8 @@ use crate::numbered::Numbered;
 use std::alloc::{AllocError, Global};
 use xrf_base::{Item, Tick, Value};
 use xrf_clt::Clt;
-use xrf_forms::{Choice, Format};
+use xrf_setup::ranges::FILE_MOST;
+use xrf_setup::{Choice, Format};
 
 /// What the lines so far say.
 #[derive(Drop)]
@@ -17,7 +18,7 @@ pub struct Reading {
     pub part: Part,
     pub format: Format,
     pub given: Given,
-    /// 256 places: record n stands at n - 1.
+    /// A place for each record there may be: record n stands at n - 1.
     pub records: Vec<Option<Value>>,
     pub clt: Clt,
     pub work_a: Vec<Item>,
@@ -43,12 +44,12 @@ const NOTHING_GIVEN: Given = Given {
     force: None,
 };
 
-// the places of 256 records, all empty
+// the places of the records, all empty
 fn empty_places(alloc: Global) -> Result<Vec<Option<Value>>, AllocError>
-    ensures { IfOk result (λ places. places.items ≡ replicate 256 None) }
+    ensures { IfOk result (λ places. places.items ≡ replicate FILE_MOST None) }
 {
     let mut places = Vec::new(alloc);
-    for count in 0..256u16 {
+    for count in 0..FILE_MOST {
         places.push(None)?;
     }
     Ok(places)

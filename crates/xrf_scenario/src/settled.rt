@@ -2,12 +2,13 @@
 
 ghost use Rattle.std.specs.Prelude.{◌≡◌, unwrap_or};
 ghost use Rattle.xrf_base.specs.Names.{IsName};
-ghost use Rattle.xrf_scenario.specs.Scenario.{level_of, settled};
+ghost use Rattle.xrf_scenario.specs.Settled.{level_of, settled};
 
 use crate::given::Given;
-use crate::settings::Settings;
+use crate::level::level_named;
 use xrf_base::{Name8, Takeovr};
-use xrf_forms::Format;
+use xrf_ctl::Level;
+use xrf_setup::{Format, Settings};
 
 fn name_or(given: Option<Name8>, default: &[u8]) -> Name8
     requires { IsName default.now }
@@ -29,12 +30,12 @@ fn named(text: &[u8]) -> Name8
     }
 }
 
-fn level_of(format: Format, given: Option<u16>) -> u16
+fn level_of(format: Format, given: Option<u16>) -> Level
     ensures { result ≡ level_of format given }
 {
     match format {
-        Format::One => 1,
-        Format::Two => given.unwrap_or(2),
+        Format::One => Level::One,
+        Format::Two => level_named(given.unwrap_or(2)),
     }
 }
 

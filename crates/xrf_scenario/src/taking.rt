@@ -17,7 +17,9 @@ use crate::reading::Reading;
 use crate::stop::Stop;
 use std::alloc::{AllocError, Global};
 use xrf_base::{Item, Site, Tick, Value};
-use xrf_forms::{Choice, Line, Reason};
+use xrf_forms::{Line, Reason};
+use xrf_setup::Choice;
+use xrf_setup::ranges::{CHOICES_MOST, CLT_MOST, ITEMS_MOST, PLAN_MOST};
 use xrf_text::split_word;
 
 fn all_empty(places: &[Option<Value>]) -> bool
@@ -107,7 +109,7 @@ impl Reading {
         requires { fault_of (behind (words line.now)) ≡ None }
         ensures { (number : ℕ) → Tells result (said self.new) (take number (said self.old) (words line.now) Clt) }
     {
-        if self.clt.count() >= 100 {
+        if self.clt.count() >= CLT_MOST {
             return Err(Stop::Fault(Reason::TooMany));
         }
         self.clt.add(alloc, behind_first(line))?;
@@ -118,8 +120,8 @@ impl Reading {
         ensures { (number : ℕ) (ws : List (List ℕ)) → Tells result (said self.new) (take number (said self.old) ws (Work site item)) }
     {
         match site {
-            Site::A => push_within(&mut self.work_a, 2000, item),
-            Site::B => push_within(&mut self.work_b, 2000, item),
+            Site::A => push_within(&mut self.work_a, ITEMS_MOST, item),
+            Site::B => push_within(&mut self.work_b, ITEMS_MOST, item),
         }
     }
 
@@ -129,7 +131,7 @@ impl Reading {
         if (tick as Tick) < last_tick(&self.plan) {
             return Err(Stop::Fault(Reason::PlanOrder));
         }
-        push_within(&mut self.plan, 500, (tick as Tick, choice))
+        push_within(&mut self.plan, PLAN_MOST, (tick as Tick, choice))
     }
 
     fn begin_choices(&mut self) -> Result<(), Stop>
@@ -144,9 +146,9 @@ impl Reading {
     }
 
     fn take_choice(&mut self, line: u32, choice: Choice, count: u16) -> Result<(), Stop>
-        ensures { Tells result (said self.new) (with_room (nat_le (length (said self.old).choices + count) 8192) (record (said self.old) { choices = (said self.old).choices ++ replicate count (numbered line choice) })) }
+        ensures { Tells result (said self.new) (with_room (nat_le (length (said self.old).choices + count) CHOICES_MOST) (record (said self.old) { choices = (said self.old).choices ++ replicate count (numbered line choice) })) }
     {
-        if self.choices.len() + count as usize > 8192 {
+        if self.choices.len() + count as usize > CHOICES_MOST {
             return Err(Stop::Fault(Reason::TooMany));
         }
         push_times(&mut self.choices, Numbered { choice, line }, count)?;

@@ -2,6 +2,7 @@ use super::*;
 use std::alloc::Global;
 use std::test::Fail;
 use xrf_base::{Item, Site, Takeovr};
+use xrf_ctl::Level;
 
 // a text with everything that a scenario can have, in an order of its own
 const FULL: &[u8] = b"  XRF   2 \r
@@ -114,7 +115,10 @@ fn the_settings_are_those_of_the_lines(rt: HostRuntime) -> Result<(), Fail> {
     assert_eq!(rt; (scenario.file(), scenario.pace()), (3, 10));
     assert_eq!(rt; scenario.ticks(), 7);
     assert!(rt; scenario.images());
-    assert_eq!(rt; (scenario.level(Site::A), scenario.level(Site::B)), (2, 1));
+    assert_eq!(rt;
+        (scenario.level(Site::A), scenario.level(Site::B)),
+        (Level::Two, Level::One)
+    );
     assert!(rt; scenario.xrfsoff_force());
     Ok(())
 }
@@ -172,9 +176,15 @@ fn a_text_is_written_in_its_canonical_form(rt: HostRuntime) -> Result<(), Fail> 
 #[test]
 fn levels_have_defaults_by_the_format(rt: HostRuntime) -> Result<(), Fail> {
     let (one, _) = read_test(rt.alloc(), b"XRF 1\nCHOICES\nEND\n")?;
-    assert_eq!(rt; (one.level(Site::A), one.level(Site::B)), (1, 1));
+    assert_eq!(rt;
+        (one.level(Site::A), one.level(Site::B)),
+        (Level::One, Level::One)
+    );
     let (two, _) = read_test(rt.alloc(), b"XRF 2\nLEVEL B 1\nCHOICES\nEND\n")?;
-    assert_eq!(rt; (two.level(Site::A), two.level(Site::B)), (2, 1));
+    assert_eq!(rt;
+        (two.level(Site::A), two.level(Site::B)),
+        (Level::Two, Level::One)
+    );
     assert!(rt; !two.xrfsoff_force());
     Ok(())
 }

@@ -11,20 +11,21 @@ ghost use Rattle.xrf_scenario.specs.Canonical.{AreChoices};
 ghost use Rattle.xrf_scenario.specs.Built.{IsBuilt, AreBuilt};
 ghost use Rattle.xrf_scenario.specs.declared.built.Forms.TheVariants.{All, Built};
 ghost use Rattle.xrf_scenario.specs.declared.numbered.Numbered.{Numbered};
-ghost use Rattle.xrf_scenario.specs.Scenario.{by_number, scenario_of};
+ghost use Rattle.xrf_scenario.specs.Settled.{by_number, scenario_of};
 
 use crate::built::Forms;
 use crate::lines::next_line;
 use crate::numbered::Numbered;
 use crate::read_bad::ReadBad;
 use crate::reading::Reading;
-use crate::scenario::Scenario;
 use crate::settled::settled;
 use crate::stepping::is_whole;
 use crate::stop::Stop;
 use std::alloc::{AllocError, Global};
 use xrf_base::Value;
 use xrf_forms::Reason;
+use xrf_setup::Scenario;
+use xrf_setup::ranges::{FILE_MOST, INPUT_MOST};
 
 // on the last line the want of END comes before what is not built
 fn told(reason: Reason, behind: &[u8]) -> Reason
@@ -66,7 +67,7 @@ fn end_or_fault(forms: Forms, reading: Reading, count: u32) -> Result<Reading, R
 }
 
 fn read_lines(alloc: Global, forms: Forms, text: &[u8]) -> Result<Reading, ReadBad>
-    requires { length text.now ≤ 4194304 }
+    requires { length text.now ≤ INPUT_MOST }
     ensures gives { Gives result (read_whole forms text.now) }
     ensures whole { IfOk result (λ r. IsSaid (said r) × (is_whole r.part ≡ true)) }
 {
@@ -85,7 +86,7 @@ fn read_lines(alloc: Global, forms: Forms, text: &[u8]) -> Result<Reading, ReadB
 }
 
 fn by_number(alloc: Global, places: &[Option<Value>]) -> Result<Vec<(u16, Value)>, AllocError>
-    requires { length places.now ≤ 256 }
+    requires { length places.now ≤ FILE_MOST }
     ensures { IfOk result (λ records. records.items ≡ by_number 1 places.now) }
 {
     let mut records = Vec::new(alloc);
@@ -131,7 +132,7 @@ pub fn read_forms(
     forms: Forms,
     text: &[u8],
 ) -> Result<(Scenario, Vec<Numbered>), ReadBad>
-    requires { length text.now ≤ 4194304 }
+    requires { length text.now ≤ INPUT_MOST }
     ensures found { IfOk result (λ r. Reads forms text.now r.0 r.1.items) }
     ensures choices { IfOk result (λ r. AreChoices (map (λ (n : Numbered). n.choice) r.1.items)) }
     ensures built { forms ≡ Built → IfOk result (λ r. IsBuilt r.0 × AreBuilt (map (λ (n : Numbered). n.choice) r.1.items)) }
@@ -146,7 +147,7 @@ pub fn read_forms(
 /// The scenario and the choices that a text spells, each choice with the number of its line; else
 /// the first bad line, counted from 1, with its first reason. A text is of at most 4,194,304 bytes.
 pub fn read(alloc: Global, text: &[u8]) -> Result<(Scenario, Vec<Numbered>), ReadBad>
-    requires { length text.now ≤ 4194304 }
+    requires { length text.now ≤ INPUT_MOST }
     ensures found { IfOk result (λ r. Reads All text.now r.0 r.1.items) }
     ensures choices { IfOk result (λ r. AreChoices (map (λ (n : Numbered). n.choice) r.1.items)) }
     ensures bad { IfErr result (λ e. IsBad All text.now e) }

@@ -2,7 +2,7 @@
 
 ghost use Rattle.std.specs.Prelude.{◌≡◌, ◌≤◌, length, ◌++◌, [], ◌∷◌};
 ghost use Rattle.std.specs.List.{AllByRecursion};
-ghost use Rattle.xrf_forms.specs.Spelling.{HasItem};
+ghost use Rattle.xrf_setup.specs.Items.{HasItem};
 ghost use Rattle.xrf_scenario.specs.Work.{is_work, is_unit_rest, is_put_of, put_count, puts_in};
 
 use xrf_base::{Item, Name8};

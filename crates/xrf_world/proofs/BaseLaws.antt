@@ -4,7 +4,7 @@ use Rattle.std.proofs.lemmas.List.{length-set, length-replicate, get_or-set_othe
 use Rattle.std.specs.List.{AllByRecursion}
 use Rattle.xrf_base.specs.Values.{IsValue}
 use Rattle.xrf_base.specs.declared.items.Item.{Item}
-use Rattle.xrf_scenario.specs.Scenario.{Scen, IsScen, AreRecords}
+use Rattle.xrf_setup.specs.Scenario.{Scen, IsScen, AreRecords}
 use Rattle.xrf_scenario.proofs.WorkLaws.{unit-length}
 use Rattle.xrf_scenario.specs.Built.{IsBuilt}
 use Rattle.xrf_scenario.specs.Work.{puts_in}
@@ -77,7 +77,7 @@ none-values (suc count) = (tt, none-values count)
 
 -- FILE is 1 to 256
 pub file-range : (s : Scen) → IsScen s → (1 ≤ s.settings.file) × (s.settings.file ≤ 256)
-file-range s is = is.settings.1.1.1.1.1.1.1.0
+file-range s is = is.settings.file
 
 -- what runs of a scenario that the program runs
 pub is-base : (s : Scen) → IsScen s → IsBuilt s → IsBase (base_of s)

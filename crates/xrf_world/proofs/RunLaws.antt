@@ -6,8 +6,8 @@ use Rattle.xrf_base.specs.declared.items.Item.{Item as WorkItem}
 use Rattle.xrf_base.specs.declared.items.Item.TheVariants.{Put as PutItem, Commit as CommitItem}
 use Rattle.xrf_base.specs.declared.items.UnitId.{UnitId}
 use Rattle.xrf_world.specs.Base.{Base}
-use Rattle.xrf_forms.specs.declared.choice.Choice.{Choice}
-use Rattle.xrf_forms.specs.declared.choice.Choice.TheVariants.{StartActive as Start, Step}
+use Rattle.xrf_setup.specs.declared.choice.Choice.{Choice}
+use Rattle.xrf_setup.specs.declared.choice.Choice.TheVariants.{StartActive as Start, Step}
 use Rattle.xrf_base.specs.declared.site.Site.TheVariants.{A as SiteA}
 use Rattle.xrf_world.specs.declared.act.Act.{Act}
 use Rattle.xrf_world.specs.declared.act.Act.TheVariants.{StartActive, LogBody, LogOpen, FileRead, FileWrite, Item, Restarted}

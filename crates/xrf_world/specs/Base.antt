@@ -3,7 +3,8 @@ use Rattle.std.specs.Prelude.{◌≡◌, ℕ, ◌-◌, ◌≤◌, List, [], ◌�
 use Rattle.std.specs.List.{AllByRecursion}
 use Rattle.xrf_base.specs.Values.{IsValue}
 use Rattle.xrf_base.specs.declared.items.Item.{Item}
-use Rattle.xrf_scenario.specs.Scenario.{Scen}
+use Rattle.xrf_setup.specs.Scenario.{Scen}
+use Rattle.xrf_setup.specs.declared.ranges.TheConstants.{FILE_LEAST, FILE_MOST}
 use Rattle.xrf_scenario.specs.Work.{IsWork}
 
 pub record Base : Type 0 where
@@ -15,9 +16,9 @@ pub record Base : Type 0 where
 -- FILE is 1 to 256, records have numbers up to FILE, and the work is that of one unit, of at most
 -- 62 items
 pub record IsBase (s : Base) : Type 0 where
-  pub file_least : 1 ≤ s.file
-  pub file_most : s.file ≤ 256
-  pub places : length s.records ≡ 256
+  pub file_least : FILE_LEAST ≤ s.file
+  pub file_most : s.file ≤ FILE_MOST
+  pub places : length s.records ≡ FILE_MOST
   pub within : (k : ℕ) → s.file ≤ k → get_or s.records k None ≡ None
   pub values : AllByRecursion (λ place. IfSome place IsValue) s.records
   pub work : IsWork s.work
@@ -28,9 +29,9 @@ abbrev pub with_records : List (ℕ × List ℕ) → List (Option (List ℕ)) �
 with_records [] places = places
 with_records (r ∷ rs) places = with_records rs (slice_set places (r.0 - 1) (Some r.1))
 
--- records at their places, 256 of them
+-- records at their places, one for each record there may be
 abbrev pub at_places : List (ℕ × List ℕ) → List (Option (List ℕ))
-at_places records = with_records records (replicate 256 None)
+at_places records = with_records records (replicate FILE_MOST None)
 
 -- what runs of a scenario
 abbrev pub base_of : Scen → Base

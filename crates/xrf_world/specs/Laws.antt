@@ -1,7 +1,7 @@
 -- What holds of runs.
 use Rattle.std.specs.Prelude.{◌≡◌, ℕ, ◌≤◌, List, [], ◌∷◌, length, IfOk}
 use Rattle.xrf_world.specs.Base.{Base, IsBase}
-use Rattle.xrf_forms.specs.declared.choice.Choice.{Choice}
+use Rattle.xrf_setup.specs.declared.choice.Choice.{Choice}
 use Rattle.xrf_world.specs.declared.act.Act.{Act}
 use Rattle.xrf_world.specs.declared.act.Act.TheVariants.{LogBody, LogOpen}
 use Rattle.xrf_world.specs.declared.entry.Entry.{Entry}

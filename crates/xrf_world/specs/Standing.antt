@@ -1,5 +1,6 @@
 -- How a World's fields stand for its trace.
 use Rattle.std.specs.Prelude.{◌≡◌, ℕ, ◌+◌, ◌<◌, List, length, Option, None, reverse, slice_index_or}
+use Rattle.xrf_setup.specs.declared.ranges.TheConstants.{CHOICES_MOST}
 use Rattle.xrf_world.specs.Base.{Base}
 use Rattle.xrf_world.specs.declared.entry.Entry.{Entry}
 use Rattle.xrf_world.specs.declared.progress.Progress.{Progress}
@@ -34,4 +35,4 @@ pub record Stands (kept : Kept) (s : Base) (t : List Entry) : Type 0 where
 pub record IsWorld (s : Base) (journal : List Entry) (capacity : ℕ) (kept : Kept) : Type 0 where
   pub run : IsRun s (reverse journal)
   pub stands : Stands kept s (reverse journal)
-  pub room : capacity ≡ 8192
+  pub room : capacity ≡ CHOICES_MOST

@@ -1,14 +1,15 @@
 //! What runs today of a scenario.
 
 ghost use Rattle.std.specs.Prelude.{◌≡◌, ◌≤◌, IfOk, length, replicate, None};
-ghost use Rattle.xrf_scenario.specs.Scenario.{AreRecords};
+ghost use Rattle.xrf_setup.specs.Scenario.{AreRecords};
 ghost use Rattle.xrf_scenario.specs.Built.{IsBuilt};
 ghost use Rattle.xrf_world.specs.Base.{at_places, base_of};
 
 use std::alloc::{AllocError, Global};
 use std::marker::Model;
 use xrf_base::{Item, Site, Value};
-use xrf_scenario::Scenario;
+use xrf_setup::Scenario;
+use xrf_setup::ranges::{FILE_LEAST, FILE_MOST};
 
 /// The file, its first records, and the work of site A. Contracts see `Base` of the specs.
 #[derive(Drop)]
@@ -30,10 +31,10 @@ impl Model for Base {
 }
 
 fn empty_places(alloc: Global) -> Result<Vec<Option<Value>>, AllocError>
-    ensures { IfOk result (λ places. places.items ≡ replicate 256 None) }
+    ensures { IfOk result (λ places. places.items ≡ replicate FILE_MOST None) }
 {
     let mut places = Vec::new(alloc);
-    for count in 0..256u16 {
+    for count in 0..FILE_MOST {
         places.push(None)?;
     }
     Ok(places)
@@ -41,7 +42,7 @@ fn empty_places(alloc: Global) -> Result<Vec<Option<Value>>, AllocError>
 
 // records at their places
 fn placed(alloc: Global, records: &[(u16, Value)]) -> Result<Vec<Option<Value>>, AllocError>
-    requires { AreRecords 1 256 records.now }
+    requires { AreRecords FILE_LEAST FILE_MOST records.now }
     ensures { IfOk result (λ places. places.items ≡ at_places records.now) }
 {
     let mut places = empty_places(alloc)?;

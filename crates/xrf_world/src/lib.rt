@@ -19,4 +19,4 @@ pub use act::{Act, Control, Decided, LogRec, Owner, OwnerState, Signal};
 pub use entry::{Entry, Refused, Who};
 pub use laws::runs_are_runs;
 pub use state::{ItemState, JobState, LogCounts};
-pub use world::{JOURNAL_MOST, World};
+pub use world::World;

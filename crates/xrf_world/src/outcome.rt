@@ -13,7 +13,7 @@ use crate::entry::{Entry, Refused, Who};
 use crate::next::act_after;
 use crate::progress::{Progress, number_given};
 use xrf_base::{Inc, Site};
-use xrf_forms::Choice;
+use xrf_setup::Choice;
 
 fn entry_of(number: Inc, act: Act) -> Entry
     ensures { result ≡ entry number act }

@@ -3,6 +3,7 @@ use std::alloc::Global;
 use std::test::Fail;
 use xrf_base::{ItemAnswer, Site, UnitId, Value};
 use xrf_scenario::{Choice, Forms, read_forms};
+use xrf_setup::ranges::CHOICES_MOST;
 
 const UNIT: &[u8] =
     b"XRF 1\nFILE 2\nRECORD 1 OLD\nWORK A BEGIN U1\nWORK A PUT U1 1 NEW\nWORK A PUT U1 3 OUT\nWORK A COMMIT U1\nCHOICES\nSTEP A\nEND\n";
@@ -16,7 +17,7 @@ fn world(alloc: Global) -> Result<World, Fail> {
 
 // what a choice comes to, while the journal has room
 fn make(world: &mut World, choice: &Choice) -> Option<Result<(), Refused>> {
-    if world.journal().len() >= JOURNAL_MOST {
+    if world.journal().len() >= CHOICES_MOST {
         return None;
     }
     Some(world.apply(choice))

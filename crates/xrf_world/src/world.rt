@@ -1,7 +1,7 @@
 //! The World: the pair, its data sets and the journal of what happened.
 
 ghost use Rattle.std.specs.Prelude.{◌≡◌, ◌+◌, ◌<◌, ◌≤◌, [], ◌∷◌, Ok, IfOk, length, reverse, vec_capacity};
-ghost use Rattle.xrf_forms.specs.declared.choice.Choice.{Choice};
+ghost use Rattle.xrf_setup.specs.declared.choice.Choice.{Choice};
 ghost use Rattle.xrf_scenario.specs.Built.{IsBuilt};
 ghost use Rattle.xrf_world.specs.Base.{base_of};
 ghost use Rattle.xrf_world.specs.Trace.{taken, log_counts};
@@ -20,11 +20,8 @@ use crate::state::{ItemState, JobState, LogCounts};
 use std::alloc::{AllocError, Global};
 use std::marker::Model;
 use xrf_base::Value;
-use xrf_forms::Choice;
-use xrf_scenario::Scenario;
-
-/// How many entries a journal has at most.
-pub const JOURNAL_MOST: usize = 8192;
+use xrf_setup::ranges::CHOICES_MOST;
+use xrf_setup::{Choice, Scenario};
 
 /// A scenario at work. Contracts see what runs of it and the trace, the newest entry first (`Run` of
 /// the specs).
@@ -52,7 +49,7 @@ impl Model for World {
 fn add_entry(base: &Base, journal: &mut Vec<Entry>, kept: &mut Kept, entry: &Entry)
     requires world { IsWorld base.now journal.old.items (vec_capacity journal.old) kept.old }
     requires made { (c : Choice) × (outcome base.now (reverse journal.old.items) c ≡ Ok entry.now) }
-    requires room { length journal.old.items < 8192 }
+    requires room { length journal.old.items < CHOICES_MOST }
     ensures world { IsWorld base.now journal.new.items (vec_capacity journal.new) kept.new }
     ensures trace { reverse journal.new.items ≡ entry.now ∷ reverse journal.old.items }
 {
@@ -75,7 +72,7 @@ impl World {
     fn of_base(alloc: Global, base: Base) -> Result<World, AllocError>
         ensures { IfOk result (λ world. world ≡ record { scenario = base; trace = [] }) }
     {
-        let journal = Vec::with_capacity(alloc, JOURNAL_MOST)?;
+        let journal = Vec::with_capacity(alloc, CHOICES_MOST)?;
         let kept = Kept::new(alloc, &base)?;
         Ok(World {
             base,
@@ -87,7 +84,7 @@ impl World {
     /// Makes a choice: one entry is added, or the choice is refused and nothing changes. It takes
     /// no memory.
     pub fn apply(&mut self, choice: &Choice) -> Result<(), Refused>
-        requires room { length self.old.trace < 8192 }
+        requires room { length self.old.trace < CHOICES_MOST }
         ensures applied { Applied self.old choice.now result self.new }
     {
         match entry_by(&self.base, &self.kept.progress, choice) {

@@ -1,6 +1,6 @@
 use Rattle.std.proofs.Common.{ℕ, List, ◌++◌, codes, ap, ◌∙◌}
 use Rattle.xrf_scenario.specs.Canonical.{fed}
-use Rattle.xrf_scenario.specs.Scenario.{kept_text}
+use Rattle.xrf_setup.specs.Commands.{kept_text}
 use Rattle.xrf_scenario.proofs.WritingLaws.{clt-next}
 use Rattle.xrf_scenario.proofs.canonical.put_clt.Goals as goal
 

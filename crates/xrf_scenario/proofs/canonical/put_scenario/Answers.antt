@@ -4,12 +4,12 @@ use Rattle.xrf_base.specs.declared.items.Item.{Item}
 use Rattle.xrf_base.specs.declared.site.Site.TheVariants.{A, B}
 use Rattle.xrf_clt.specs.Kept.{Kept}
 use Rattle.xrf_forms.specs.LineText.{header_text, line_text}
-use Rattle.xrf_forms.specs.declared.choice.Choice.{Choice}
-use Rattle.xrf_forms.specs.declared.form.Format.{Format}
+use Rattle.xrf_setup.specs.declared.choice.Choice.{Choice}
+use Rattle.xrf_setup.specs.declared.format.Format.{Format}
 use Rattle.xrf_forms.specs.declared.line.Line.TheVariants.{Work}
 use Rattle.xrf_scenario.specs.Canonical.{text_of, records_said, clt_said, plan_said}
-use Rattle.xrf_scenario.specs.Scenario.{setting_lines}
-use Rattle.xrf_scenario.specs.declared.settings.Settings.{Settings}
+use Rattle.xrf_scenario.specs.SettingLines.{setting_lines}
+use Rattle.xrf_setup.specs.declared.settings.Settings.{Settings}
 use Rattle.xrf_scenario.proofs.WritingLaws.{scenario-written}
 use Rattle.xrf_scenario.proofs.canonical.put_scenario.Goals as goal
 

@@ -1,5 +1,5 @@
 use Rattle.std.proofs.Common.{ℕ, sym, ◌∙◌, ap}
-use Rattle.xrf_forms.specs.declared.choice.Choice.{Choice}
+use Rattle.xrf_setup.specs.declared.choice.Choice.{Choice}
 use Rattle.xrf_scenario.proofs.TakingLaws.{last_by_length}
 use Rattle.xrf_scenario.proofs.taking.last_tick.Goals as goal
 

@@ -1,5 +1,5 @@
 use Rattle.std.proofs.Common.{◌≡◌, ◌++◌, ◌+◌, drop}
-use Rattle.xrf_scenario.specs.Scenario.{by_number}
+use Rattle.xrf_scenario.specs.Settled.{by_number}
 use Rattle.xrf_scenario.proofs.text.by_number.Given as goal
 
 -- the records so far and those of the places left are the records

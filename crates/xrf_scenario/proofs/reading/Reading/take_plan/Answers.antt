@@ -1,6 +1,6 @@
 use Rattle.std.proofs.Common.{◌≡◌, ◌≤◌, List, ℕ, false, nat_lt, arith}
 use Rattle.std.proofs.lemmas.Bool.Decides.{nat_tests}
-use Rattle.xrf_forms.specs.declared.choice.Choice.{Choice}
+use Rattle.xrf_setup.specs.declared.choice.Choice.{Choice}
 use Rattle.xrf_scenario.specs.Held.{said}
 use Rattle.xrf_scenario.specs.Taking.{last_tick}
 use Rattle.xrf_scenario.proofs.reading.Reading.take_plan.Goals as goal

@@ -1,5 +1,5 @@
 use Rattle.std.proofs.Common.{subst, sym, ℕ, List}
-use Rattle.xrf_scenario.specs.Scenario.{AreRecords}
+use Rattle.xrf_setup.specs.Scenario.{AreRecords}
 use Rattle.xrf_world.proofs.BaseLaws.{is-base-of, records-wider, file-range}
 use Rattle.xrf_world.proofs.base.Base.new.Goals as goal
 

@@ -2,10 +2,10 @@
 
 ghost use Rattle.std.specs.Prelude.{◌≡◌, ◌≤◌, ℕ, List, length, take};
 ghost use Rattle.xrf_base.specs.Padding.{padded, made_again};
-ghost use Rattle.xrf_forms.specs.Torn.{torn_of};
-ghost use Rattle.xrf_forms.specs.Hex.{torn_of_hex};
+ghost use Rattle.xrf_setup.specs.Torn.{torn_of};
+ghost use Rattle.xrf_setup.specs.declared.ranges.TheConstants.{TORN_MOST};
 
-use crate::hex::{fill_all, spells_hex};
+use crate::ranges::TORN_MOST;
 use std::marker::Model;
 use xrf_base::padded_array;
 
@@ -13,7 +13,7 @@ use xrf_base::padded_array;
 #[derive(Clone, Copy)]
 pub struct TornBytes {
     // padded with blanks
-    bytes: [u8; 63],
+    bytes: [u8; TORN_MOST],
     count: u8,
 }
 
@@ -22,11 +22,11 @@ impl Model for TornBytes {
 
     ghost view = { λ n. take n.count n.bytes };
 
-    ghost invariant = { λ n. (n.count ≤ 63) × (n.bytes ≡ padded 63 (take n.count n.bytes)) × (1 ≤ n.count) };
+    ghost invariant = { λ n. (n.count ≤ TORN_MOST) × (n.bytes ≡ padded TORN_MOST (take n.count n.bytes)) × (1 ≤ n.count) };
 
-    ghost inverse = { λ text. record { bytes = padded 63 text; count = length text } };
+    ghost inverse = { λ text. record { bytes = padded TORN_MOST text; count = length text } };
 
-    ghost inverse_ok = { λ n fits. made_again (λ bytes count. record { bytes = bytes; count = count }) 63 n.bytes n.count fits.0 fits.1 };
+    ghost inverse_ok = { λ n fits. made_again (λ bytes count. record { bytes = bytes; count = count }) TORN_MOST n.bytes n.count fits.0 fits.1 };
 }
 
 impl TornBytes {
@@ -37,7 +37,7 @@ impl TornBytes {
         if bytes.is_empty() {
             return None;
         }
-        if bytes.len() > 63 {
+        if bytes.len() > TORN_MOST {
             return None;
         }
         Some(TornBytes {
@@ -46,21 +46,11 @@ impl TornBytes {
         })
     }
 
-    /// The bytes that a text spells in hex, or none where it spells none.
-    pub fn from_hex(text: &[u8]) -> Option<TornBytes>
-        ensures { result ≡ torn_of_hex text.now }
-    {
-        if !spells_hex(text) {
-            return None;
-        }
-        TornBytes::new(fill_all(text).front())
-    }
-
     /// The bytes.
     pub fn bytes(&self) -> &[u8]
         ensures bytes { result.now ≡ self.now }
         ensures least { 1 ≤ length result.now }
-        ensures most { length result.now ≤ 63 }
+        ensures most { length result.now ≤ TORN_MOST }
     {
         &self.bytes[..self.count as usize]
     }

@@ -1,9 +1,9 @@
 use Rattle.std.proofs.Common.{◌≡◌, true, ap, ◌∙◌}
 use Rattle.xrf_forms.specs.Hex.{is_hex}
-use Rattle.xrf_forms.specs.Torn.{torn_of}
+use Rattle.xrf_setup.specs.Torn.{torn_of}
 use Rattle.xrf_forms.specs.Filling.{front_of}
 use Rattle.xrf_forms.proofs.Filling.{torn_law}
-use Rattle.xrf_forms.proofs.torn.TornBytes.from_hex.Goals as goal
+use Rattle.xrf_forms.proofs.hex.read_hex.Goals as goal
 
 pub returns : goal.returns
 returns c =

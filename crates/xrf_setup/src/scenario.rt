@@ -2,12 +2,14 @@
 
 ghost use Rattle.std.specs.Prelude.{◌≡◌, IfOk};
 
+use crate::choice::Choice;
+use crate::format::Format;
 use crate::settings::Settings;
 use std::alloc::AllocError;
 use std::marker::Model;
 use xrf_base::{Item, Name8, Site, Takeovr, Tick, Value};
 use xrf_clt::Clt;
-use xrf_forms::{Choice, Format};
+use xrf_ctl::Level;
 
 /// A scenario. Contracts see its parts (`Scen` of the specs).
 #[derive(Drop)]
@@ -22,7 +24,7 @@ pub struct Scenario {
 }
 
 impl Model for Scenario {
-    ghost use Rattle.xrf_scenario.specs.Scenario.{Scen, IsScen};
+    ghost use Rattle.xrf_setup.specs.Scenario.{Scen, IsScen};
 
     ghost Value = { Scen };
 
@@ -50,7 +52,8 @@ fn copied_work(work: &Vec<Item>) -> Result<Vec<Item>, AllocError>
 }
 
 impl Scenario {
-    ghost use Rattle.xrf_scenario.specs.Scenario.{Scen, IsScen, applid_of, level_at, work_of};
+    ghost use Rattle.xrf_setup.specs.Scenario.{Scen, IsScen, work_of};
+    ghost use Rattle.xrf_setup.specs.Settings.{applid_of, level_at};
 
     /// A scenario of these parts, the records by number.
     pub fn new(
@@ -173,14 +176,14 @@ impl Scenario {
         self.settings.format
     }
 
-    /// LEVEL: the level of a site, 1 or 2.
-    pub fn level(&self, site: Site) -> u8
+    /// LEVEL: the level of a site.
+    pub fn level(&self, site: Site) -> Level
         ensures level { result ≡ level_at self.now.settings site }
         ensures scenario { IsScen self.now }
     {
         match site {
-            Site::A => self.settings.level_a as u8,
-            Site::B => self.settings.level_b as u8,
+            Site::A => self.settings.level_a,
+            Site::B => self.settings.level_b,
         }
     }
 

@@ -1,7 +1,8 @@
 //! The settings of a scenario.
 
+use crate::format::Format;
 use xrf_base::{Name8, Takeovr};
-use xrf_forms::Format;
+use xrf_ctl::Level;
 
 /// The settings of a scenario, at what its text gives or at their defaults.
 #[derive(Clone, Copy)]
@@ -18,8 +19,8 @@ pub struct Settings {
     pub pace: u16,
     pub ticks: u16,
     pub images: bool,
-    pub level_a: u16,
-    pub level_b: u16,
+    pub level_a: Level,
+    pub level_b: Level,
     /// Whether XRFSOFF is FORCE.
     pub force: bool,
 }

@@ -1,8 +1,17 @@
 """Reads the document of a run: a scenario, its choices, and the report that follows them."""
 
-DEFAULTS = {"LOG": "64", "RING": "16", "FILE": "16", "ADI": "30", "PDI": "30", "TAKEOVR": "MANUAL", "XRFSOFF": "NOFORCE"}
-# lines that change no run of its choices
-OTHERS = ("PACE", "TICKS", "IMAGES", "PLAN", "CHOICES", "END")
+DEFAULTS = {
+    "TAKEOVR": "MANUAL",
+    "ADI": "30",
+    "PDI": "30",
+    "LOG": "64",
+    "RING": "16",
+    "FILE": "16",
+    "PACE": "40",
+    "TICKS": "60",
+    "IMAGES": "OFF",
+    "XRFSOFF": "NOFORCE",
+}
 # lines of choices that may carry a count
 COUNTED = {"STEP": 3, "TICK": 2}
 
@@ -17,7 +26,7 @@ class Document:
         self.head = lines[0]
         self.settings, self.applid = dict(DEFAULTS), {"A": "CICSA", "B": "CICSB"}
         self.level = dict.fromkeys("AB", "1" if self.head == "XRF 1" else "2")
-        self.records, self.command_list, self.work = [], [], {"A": [], "B": []}
+        self.records, self.command_list, self.work, self.plan = [], [], {"A": [], "B": []}, []
         self.choices, self.acts, self.told = [], [], []
         for line in lines[1:]:
             self.take(line.split())
@@ -36,9 +45,11 @@ class Document:
             self.command_list.append(words[1:])
         elif kind == "WORK":
             self.work[words[1]].append(words[2:])
+        elif kind == "PLAN":
+            self.plan.append((words[1], words[2:]))
         elif kind in self.settings:
             self.settings[kind] = words[1]
-        elif kind not in OTHERS:
+        elif kind not in ("CHOICES", "END"):
             self.choices += self.repeated(words)
 
     @staticmethod
@@ -48,16 +59,12 @@ class Document:
         return [words[:-1]] * int(words[-1]) if size == len(words) else [words]
 
     def scenario(self):
-        """all that the run of some choices goes by"""
-        return self.head, self.settings, self.applid, self.level, sorted(self.records), self.command_list, self.work
+        """all that its lines say of the scenario"""
+        return self.head, self.settings, self.applid, self.level, sorted(self.records), self.command_list, self.work, self.plan
 
     def of(self, kind):
         """the lines of the report that begin with a word"""
         return [words for words in self.told if words[0] == kind]
-
-    def lines_of(self, site):
-        """how many lines of the command list are those of a site's applid"""
-        return sum(1 for words in self.command_list if words[0] == self.applid[site])
 
 
 def difference(given, written):

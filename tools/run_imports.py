@@ -24,14 +24,15 @@ xrf_exit.specs.declared.ExitAnswer.TheVariants as exit
 xrf_msg.specs.declared.messages.Message.TheVariants as message
 xrf_logrec.specs.declared.records.LogRec.TheVariants as rec
 xrf_history.specs.declared.want.EndWhy.TheVariants as end
-xrf_forms.specs.declared.choice.Choice.{Choice}
-xrf_forms.specs.declared.choice.Choice.TheVariants as choice
-xrf_forms.specs.declared.choice.Landing.TheVariants as landing
+xrf_setup.specs.declared.choice.Choice.{Choice}
+xrf_setup.specs.declared.choice.Choice.TheVariants as choice
+xrf_setup.specs.declared.choice.Landing.TheVariants as landing
+xrf_setup.specs.declared.format.Format.TheVariants as format
+xrf_setup.specs.Scenario.{Scen}
 xrf_trace.specs.declared.entry.Act.TheVariants as act
 xrf_trace.specs.declared.entry.Entry.{Entry}
 xrf_trace.specs.declared.entry.Land.TheVariants as land
 xrf_trace.specs.declared.entry.Who.TheVariants as who
-xrf_trace.specs.Scenario.{Scen}
 xrf_examples.specs.Making.{Told, entry_of, owner_of, alt_of, taking_of, unit_of}"""
 
 

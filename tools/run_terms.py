@@ -267,24 +267,35 @@ def told(document):
     ]
 
 
+def settings(document):
+    """The fields of the settings."""
+    of, level = document.settings, {"1": "level.One", "2": "level.Two"}
+    return {
+        "format": {"XRF 1": "format.One", "XRF 2": "format.Two"}[document.head],
+        "applid_a": plain(text_of(document.applid["A"])),
+        "applid_b": plain(text_of(document.applid["B"])),
+        "takeovr": f"takeovr.{of['TAKEOVR'].capitalize()}",
+        **{word.lower(): of[word] for word in ("ADI", "PDI", "LOG", "RING", "FILE", "PACE", "TICKS")},
+        "images": truth(of["IMAGES"] == "ON"),
+        "level_a": level[document.level["A"]],
+        "level_b": level[document.level["B"]],
+        "force": truth(of["XRFSOFF"] == "FORCE"),
+    }
+
+
 def scenario(document):
     """The record of the scenario."""
-    of = document.settings
-    level = {"1": "level.One", "2": "level.Two"}
+    commands = [f"record {{ applid = {plain(text_of(applid))}; text = {plain(text_of(' '.join(words)))} }}" for applid, *words in document.command_list]
     return [
         "abbrev pub scenario : Scen",
         "scenario = record {",
-        f"  limits = record {{ log = {of['LOG']}; ring = {of['RING']}; file = {of['FILE']} }};",
-        f"  takeovr = takeovr.{of['TAKEOVR'].capitalize()};",
-        f"  adi = {of['ADI']};",
-        f"  pdi = {of['PDI']};",
-        f"  level_a = {level[document.level['A']]};",
-        f"  level_b = {level[document.level['B']]};",
-        f"  force = {truth(of['XRFSOFF'] == 'FORCE')};",
-        f"  clt_a = {document.lines_of('A')};",
-        f"  clt_b = {document.lines_of('B')};",
+        "  settings = record {",
+        *(f"    {label} = {value};" for label, value in settings(document).items()),
+        "  };",
         field("records", [f"({number}, {plain(text_of(value))})" for number, value in document.records]),
+        field("clt", commands),
         field("work_a", [item(words) for words in document.work["A"]]),
         field("work_b", [item(words) for words in document.work["B"]]),
+        field("plan", [f"({tick}, {choice(words)})" for tick, words in document.plan]),
         "}",
     ]

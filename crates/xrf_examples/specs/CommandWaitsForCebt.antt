@@ -1,5 +1,5 @@
 -- Under COMMAND an abnormal sign-off alone starts no takeover; PERFORM TAKEOVER does, up to the restart at the new site.
-use Rattle.std.specs.Prelude.{false, List, [], ◌∷◌, ◌++◌, replicate, Some, None}
+use Rattle.std.specs.Prelude.{false, List, [], ◌∷◌, ◌++◌, replicate, codes, Some, None}
 use Rattle.xrf_base.specs.declared.site.Site.TheVariants as site
 use Rattle.xrf_base.specs.declared.site.Takeovr.TheVariants as takeovr
 use Rattle.xrf_ctl.specs.declared.parts.Level.TheVariants as level
@@ -13,30 +13,41 @@ use Rattle.xrf_cavm.specs.declared.decisions.Decided.TheVariants as decided
 use Rattle.xrf_cebt.specs.declared.commands.Cebt.TheVariants as cebt
 use Rattle.xrf_cebt.specs.declared.replies.CebtReply.TheVariants as reply
 use Rattle.xrf_history.specs.declared.want.EndWhy.TheVariants as end
-use Rattle.xrf_forms.specs.declared.choice.Choice.{Choice}
-use Rattle.xrf_forms.specs.declared.choice.Choice.TheVariants as choice
+use Rattle.xrf_setup.specs.declared.choice.Choice.{Choice}
+use Rattle.xrf_setup.specs.declared.choice.Choice.TheVariants as choice
+use Rattle.xrf_setup.specs.declared.format.Format.TheVariants as format
+use Rattle.xrf_setup.specs.Scenario.{Scen}
 use Rattle.xrf_trace.specs.declared.entry.Act.TheVariants as act
 use Rattle.xrf_trace.specs.declared.entry.Entry.{Entry}
 use Rattle.xrf_trace.specs.declared.entry.Land.TheVariants as land
 use Rattle.xrf_trace.specs.declared.entry.Who.TheVariants as who
-use Rattle.xrf_trace.specs.Scenario.{Scen}
 use Rattle.xrf_examples.specs.Making.{Told, entry_of, owner_of, alt_of, taking_of}
 use Rattle.xrf_examples.specs.Beginnings.{off_abend, to_off_abend}
 
 abbrev pub scenario : Scen
 scenario = record {
-  limits = record { log = 64; ring = 16; file = 16 };
-  takeovr = takeovr.Command;
-  adi = 30;
-  pdi = 30;
-  level_a = level.One;
-  level_b = level.One;
-  force = false;
-  clt_a = 0;
-  clt_b = 0;
+  settings = record {
+    format = format.One;
+    applid_a = codes "CICSA";
+    applid_b = codes "CICSB";
+    takeovr = takeovr.Command;
+    adi = 30;
+    pdi = 30;
+    log = 64;
+    ring = 16;
+    file = 16;
+    pace = 40;
+    ticks = 60;
+    images = false;
+    level_a = level.One;
+    level_b = level.One;
+    force = false;
+  };
   records = [];
+  clt = [];
   work_a = [];
   work_b = [];
+  plan = [];
 }
 
 abbrev pub choices : List Choice

@@ -6,28 +6,38 @@ use Rattle.xrf_base.specs.declared.items.Item.TheVariants as items
 use Rattle.xrf_base.specs.Values.{slot_of}
 use Rattle.xrf_ctl.specs.declared.parts.Level.TheVariants as level
 use Rattle.xrf_logrec.specs.declared.records.LogRec.TheVariants as rec
-use Rattle.xrf_forms.specs.declared.choice.Choice.{Choice}
-use Rattle.xrf_forms.specs.declared.choice.Choice.TheVariants as choice
+use Rattle.xrf_setup.specs.declared.choice.Choice.{Choice}
+use Rattle.xrf_setup.specs.declared.choice.Choice.TheVariants as choice
+use Rattle.xrf_setup.specs.declared.format.Format.TheVariants as format
+use Rattle.xrf_setup.specs.Scenario.{Scen}
 use Rattle.xrf_trace.specs.declared.entry.Act.TheVariants as act
 use Rattle.xrf_trace.specs.declared.entry.Entry.{Entry}
 use Rattle.xrf_trace.specs.declared.entry.Land.TheVariants as land
 use Rattle.xrf_trace.specs.declared.entry.Who.TheVariants as who
-use Rattle.xrf_trace.specs.Scenario.{Scen}
 use Rattle.xrf_examples.specs.Making.{entry_of, unit_of}
 use Rattle.xrf_examples.specs.LogGoesRound.{log_goes_round, to_log_goes_round}
 
 abbrev pub scenario : Scen
 scenario = record {
-  limits = record { log = 64; ring = 16; file = 4 };
-  takeovr = takeovr.Manual;
-  adi = 30;
-  pdi = 30;
-  level_a = level.One;
-  level_b = level.One;
-  force = false;
-  clt_a = 0;
-  clt_b = 0;
+  settings = record {
+    format = format.One;
+    applid_a = codes "CICSA";
+    applid_b = codes "CICSB";
+    takeovr = takeovr.Manual;
+    adi = 30;
+    pdi = 30;
+    log = 64;
+    ring = 16;
+    file = 4;
+    pace = 40;
+    ticks = 60;
+    images = false;
+    level_a = level.One;
+    level_b = level.One;
+    force = false;
+  };
   records = [];
+  clt = [];
   work_a =
       items.Begin (codes "U1") ∷ items.Put (codes "U1") 1 (codes "V1") ∷ items.Put (codes "U1") 2 (codes "W1") ∷ items.Commit (codes "U1") ∷
       items.Begin (codes "U1") ∷ items.Put (codes "U1") 1 (codes "V2") ∷ items.Put (codes "U1") 2 (codes "W2") ∷ items.Commit (codes "U1") ∷
@@ -63,6 +73,7 @@ scenario = record {
       items.Begin (codes "U1") ∷ items.Put (codes "U1") 1 (codes "V32") ∷ items.Put (codes "U1") 2 (codes "W32") ∷ items.Commit (codes "U1") ∷
       items.Begin (codes "U1") ∷ items.Put (codes "U1") 1 (codes "V33") ∷ items.Put (codes "U1") 2 (codes "W33") ∷ items.Commit (codes "U1") ∷ [];
   work_b = [];
+  plan = [];
 }
 
 abbrev pub to_keypoint_is_due : List Choice

@@ -73,7 +73,7 @@ told_of s t = record {
   records = length (log t);
   done = length (committed (log t));
   undone = length (flight (log t));
-  file = map (λ k. slot_reading (image s t k)) (range_with_len 1 s.limits.file);
+  file = map (λ k. slot_reading (image s t k)) (range_with_len 1 s.settings.file);
   table_a = table_of s t A;
   table_b = table_of s t B;
 }

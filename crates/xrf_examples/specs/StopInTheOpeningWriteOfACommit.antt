@@ -11,32 +11,43 @@ use Rattle.xrf_ctl.specs.Signal.{of_numbers}
 use Rattle.xrf_cavm.specs.declared.decisions.Acting.TheVariants as acting
 use Rattle.xrf_cavm.specs.declared.decisions.Decided.TheVariants as decided
 use Rattle.xrf_logrec.specs.declared.records.LogRec.TheVariants as rec
-use Rattle.xrf_forms.specs.declared.choice.Choice.{Choice}
-use Rattle.xrf_forms.specs.declared.choice.Choice.TheVariants as choice
-use Rattle.xrf_forms.specs.declared.choice.Landing.TheVariants as landing
+use Rattle.xrf_setup.specs.declared.choice.Choice.{Choice}
+use Rattle.xrf_setup.specs.declared.choice.Choice.TheVariants as choice
+use Rattle.xrf_setup.specs.declared.choice.Landing.TheVariants as landing
+use Rattle.xrf_setup.specs.declared.format.Format.TheVariants as format
+use Rattle.xrf_setup.specs.Scenario.{Scen}
 use Rattle.xrf_trace.specs.declared.entry.Act.TheVariants as act
 use Rattle.xrf_trace.specs.declared.entry.Entry.{Entry}
 use Rattle.xrf_trace.specs.declared.entry.Land.TheVariants as land
 use Rattle.xrf_trace.specs.declared.entry.Who.TheVariants as who
-use Rattle.xrf_trace.specs.Scenario.{Scen}
 use Rattle.xrf_examples.specs.Making.{Told, entry_of, owner_of, unit_of}
 use Rattle.xrf_examples.specs.Units.{committing, to_committing}
 
 abbrev pub scenario : Scen
 scenario = record {
-  limits = record { log = 64; ring = 16; file = 4 };
-  takeovr = takeovr.Manual;
-  adi = 30;
-  pdi = 30;
-  level_a = level.One;
-  level_b = level.One;
-  force = false;
-  clt_a = 0;
-  clt_b = 0;
+  settings = record {
+    format = format.One;
+    applid_a = codes "CICSA";
+    applid_b = codes "CICSB";
+    takeovr = takeovr.Manual;
+    adi = 30;
+    pdi = 30;
+    log = 64;
+    ring = 16;
+    file = 4;
+    pace = 40;
+    ticks = 60;
+    images = false;
+    level_a = level.One;
+    level_b = level.One;
+    force = false;
+  };
   records = (1, codes "OLD") ∷ [];
+  clt = [];
   work_a =
       items.Begin (codes "U1") ∷ items.Put (codes "U1") 1 (codes "NEW") ∷ items.Put (codes "U1") 3 (codes "SECOND") ∷ items.Commit (codes "U1") ∷ [];
   work_b = [];
+  plan = [];
 }
 
 abbrev pub choices : List Choice

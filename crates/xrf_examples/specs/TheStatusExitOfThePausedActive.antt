@@ -8,26 +8,37 @@ use Rattle.xrf_ctl.specs.declared.parts.Level.TheVariants as level
 use Rattle.xrf_ctl.specs.declared.parts.OwnerState.TheVariants as state
 use Rattle.xrf_ctl.specs.declared.parts.Cause.TheVariants as cause
 use Rattle.xrf_ctl.specs.Control.{of_parts}
-use Rattle.xrf_forms.specs.declared.choice.Choice.{Choice}
+use Rattle.xrf_setup.specs.declared.choice.Choice.{Choice}
+use Rattle.xrf_setup.specs.declared.format.Format.TheVariants as format
+use Rattle.xrf_setup.specs.Scenario.{Scen}
 use Rattle.xrf_trace.specs.declared.entry.Entry.{Entry}
-use Rattle.xrf_trace.specs.Scenario.{Scen}
 use Rattle.xrf_examples.specs.Making.{Told, owner_of, alt_of, taking_of}
 use Rattle.xrf_examples.specs.Takeovers.{paused, to_paused}
 
 abbrev pub scenario : Scen
 scenario = record {
-  limits = record { log = 64; ring = 16; file = 4 };
-  takeovr = takeovr.Auto;
-  adi = 5;
-  pdi = 30;
-  level_a = level.One;
-  level_b = level.One;
-  force = false;
-  clt_a = 0;
-  clt_b = 0;
+  settings = record {
+    format = format.One;
+    applid_a = codes "CICSA";
+    applid_b = codes "CICSB";
+    takeovr = takeovr.Auto;
+    adi = 5;
+    pdi = 30;
+    log = 64;
+    ring = 16;
+    file = 4;
+    pace = 40;
+    ticks = 60;
+    images = false;
+    level_a = level.One;
+    level_b = level.One;
+    force = false;
+  };
   records = (1, codes "OLD") ∷ [];
+  clt = [];
   work_a = items.Begin (codes "U1") ∷ items.Put (codes "U1") 1 (codes "NEW") ∷ [];
   work_b = [];
+  plan = [];
 }
 
 abbrev pub choices : List Choice

@@ -16,30 +16,41 @@ use Rattle.xrf_cavm.specs.declared.decisions.Acting.TheVariants as acting
 use Rattle.xrf_cavm.specs.declared.decisions.Decided.TheVariants as decided
 use Rattle.xrf_msg.specs.declared.messages.Message.TheVariants as message
 use Rattle.xrf_history.specs.declared.want.EndWhy.TheVariants as end
-use Rattle.xrf_forms.specs.declared.choice.Choice.{Choice}
-use Rattle.xrf_forms.specs.declared.choice.Choice.TheVariants as choice
+use Rattle.xrf_setup.specs.declared.choice.Choice.{Choice}
+use Rattle.xrf_setup.specs.declared.choice.Choice.TheVariants as choice
+use Rattle.xrf_setup.specs.declared.format.Format.TheVariants as format
+use Rattle.xrf_setup.specs.Scenario.{Scen}
 use Rattle.xrf_trace.specs.declared.entry.Act.TheVariants as act
 use Rattle.xrf_trace.specs.declared.entry.Entry.{Entry}
 use Rattle.xrf_trace.specs.declared.entry.Land.TheVariants as land
 use Rattle.xrf_trace.specs.declared.entry.Who.TheVariants as who
-use Rattle.xrf_trace.specs.Scenario.{Scen}
 use Rattle.xrf_examples.specs.Making.{Told, entry_of, owner_of, alt_of, taking_of}
 use Rattle.xrf_examples.specs.Beginnings.{restarted, to_restarted}
 
 abbrev pub scenario : Scen
 scenario = record {
-  limits = record { log = 64; ring = 16; file = 16 };
-  takeovr = takeovr.Auto;
-  adi = 30;
-  pdi = 30;
-  level_a = level.One;
-  level_b = level.One;
-  force = false;
-  clt_a = 0;
-  clt_b = 0;
+  settings = record {
+    format = format.One;
+    applid_a = codes "CICSA";
+    applid_b = codes "CICSB";
+    takeovr = takeovr.Auto;
+    adi = 30;
+    pdi = 30;
+    log = 64;
+    ring = 16;
+    file = 16;
+    pace = 40;
+    ticks = 10;
+    images = false;
+    level_a = level.One;
+    level_b = level.One;
+    force = false;
+  };
   records = [];
+  clt = [];
   work_a = items.Logon (codes "T1") 1 ∷ items.Logon (codes "T2") 2 ∷ items.Logon (codes "T3") 3 ∷ [];
   work_b = [];
+  plan = (0, choice.StartActive site.A) ∷ (1, choice.StartStandby site.B) ∷ (3, choice.Abend site.A) ∷ [];
 }
 
 abbrev pub choices : List Choice

@@ -3,8 +3,8 @@ use Rattle.std.specs.Prelude.{List, ◌∷◌, ◌++◌, replicate, codes, Some,
 use Rattle.xrf_base.specs.declared.site.Site.TheVariants as site
 use Rattle.xrf_base.specs.Values.{slot_of}
 use Rattle.xrf_logrec.specs.declared.records.LogRec.TheVariants as rec
-use Rattle.xrf_forms.specs.declared.choice.Choice.{Choice}
-use Rattle.xrf_forms.specs.declared.choice.Choice.TheVariants as choice
+use Rattle.xrf_setup.specs.declared.choice.Choice.{Choice}
+use Rattle.xrf_setup.specs.declared.choice.Choice.TheVariants as choice
 use Rattle.xrf_trace.specs.declared.entry.Act.TheVariants as act
 use Rattle.xrf_trace.specs.declared.entry.Entry.{Entry}
 use Rattle.xrf_trace.specs.declared.entry.Land.TheVariants as land

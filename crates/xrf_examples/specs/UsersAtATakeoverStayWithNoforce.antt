@@ -8,30 +8,41 @@ use Rattle.xrf_terms.specs.declared.rows.How.TheVariants as how
 use Rattle.xrf_ctl.specs.declared.parts.Level.TheVariants as level
 use Rattle.xrf_ctl.specs.declared.parts.OwnerState.TheVariants as state
 use Rattle.xrf_ctl.specs.Control.{of_parts}
-use Rattle.xrf_forms.specs.declared.choice.Choice.{Choice}
-use Rattle.xrf_forms.specs.declared.choice.Choice.TheVariants as choice
+use Rattle.xrf_setup.specs.declared.choice.Choice.{Choice}
+use Rattle.xrf_setup.specs.declared.choice.Choice.TheVariants as choice
+use Rattle.xrf_setup.specs.declared.format.Format.TheVariants as format
+use Rattle.xrf_setup.specs.Scenario.{Scen}
 use Rattle.xrf_trace.specs.declared.entry.Act.TheVariants as act
 use Rattle.xrf_trace.specs.declared.entry.Entry.{Entry}
 use Rattle.xrf_trace.specs.declared.entry.Land.TheVariants as land
 use Rattle.xrf_trace.specs.declared.entry.Who.TheVariants as who
-use Rattle.xrf_trace.specs.Scenario.{Scen}
 use Rattle.xrf_examples.specs.Making.{Told, entry_of, owner_of}
 use Rattle.xrf_examples.specs.Takeovers.{users_through, to_users_through}
 
 abbrev pub scenario : Scen
 scenario = record {
-  limits = record { log = 64; ring = 16; file = 16 };
-  takeovr = takeovr.Manual;
-  adi = 30;
-  pdi = 30;
-  level_a = level.Two;
-  level_b = level.Two;
-  force = false;
-  clt_a = 0;
-  clt_b = 0;
+  settings = record {
+    format = format.Two;
+    applid_a = codes "CICSA";
+    applid_b = codes "CICSB";
+    takeovr = takeovr.Manual;
+    adi = 30;
+    pdi = 30;
+    log = 64;
+    ring = 16;
+    file = 16;
+    pace = 40;
+    ticks = 60;
+    images = false;
+    level_a = level.Two;
+    level_b = level.Two;
+    force = false;
+  };
   records = [];
+  clt = [];
   work_a = items.Logon (codes "T1") 1 ∷ items.Signon (codes "T1") (codes "ANNA") ∷ items.Logon (codes "T2") 2 ∷ [];
   work_b = [];
+  plan = [];
 }
 
 abbrev pub choices : List Choice

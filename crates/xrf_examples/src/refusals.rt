@@ -4,8 +4,8 @@ ghost use Rattle.std.specs.Prelude.{◌≡◌, [], ◌∷◌, ◌++◌, replicat
 ghost use Rattle.xrf_base.specs.declared.site.Site.TheVariants.{A, B};
 ghost use Rattle.xrf_cebt.specs.declared.commands.Cebt.TheVariants as cebt;
 ghost use Rattle.xrf_exit.specs.declared.ExitAnswer.TheVariants as exit;
-ghost use Rattle.xrf_forms.specs.declared.choice.Choice.TheVariants as choice;
-ghost use Rattle.xrf_forms.specs.declared.choice.Landing.TheVariants as landing;
+ghost use Rattle.xrf_setup.specs.declared.choice.Choice.TheVariants as choice;
+ghost use Rattle.xrf_setup.specs.declared.choice.Landing.TheVariants as landing;
 ghost use Rattle.xrf_trace.specs.declared.entry.Refused.TheVariants.{NotEnabled, Dishonest, TornLength, NotAllowed};
 ghost use Rattle.xrf_trace.specs.Runs.{run};
 ghost use Rattle.xrf_examples.specs.Refused.{scenario, started, standing_by, alternate_lost, refused_at};

@@ -3,6 +3,7 @@ use Rattle.std.specs.Prelude.{◌≡◌, ◌≤◌, ◌+◌, ℕ, true, List, []
 use Rattle.std.specs.List.{AllByRecursion}
 use Rattle.xrf_base.specs.Values.{IsValue}
 use Rattle.xrf_base.specs.declared.items.Item.{Item}
+use Rattle.xrf_base.specs.declared.limits.Limits.{Limits}
 use Rattle.xrf_base.specs.declared.site.Site.{Site}
 use Rattle.xrf_base.specs.declared.site.Site.TheVariants.{A, B}
 use Rattle.xrf_clt.specs.Kept.{Kept}
@@ -25,9 +26,13 @@ pub record Scen : Type 0 where
   -- ticks and choices
   pub plan : List (ℕ × Choice)
 
-abbrev pub work_of : Scen → Site → List Item
-work_of s A = s.work_a
-work_of s B = s.work_b
+abbrev pub work : Scen → Site → List Item
+work s A = s.work_a
+work s B = s.work_b
+
+-- the sizes of the data sets
+abbrev pub limits : Scen → Limits
+limits s = record { log = s.settings.log; ring = s.settings.ring; file = s.settings.file }
 
 -- records by number, each number once, from one number to another
 abbrev pub AreRecords : ℕ → ℕ → List (ℕ × List ℕ) → Type 0

@@ -7,7 +7,7 @@ use crate::format::Format;
 use crate::settings::Settings;
 use std::alloc::AllocError;
 use std::marker::Model;
-use xrf_base::{Item, Name8, Site, Takeovr, Tick, Value};
+use xrf_base::{Item, Limits, Name8, Site, Takeovr, Tick, Value};
 use xrf_clt::Clt;
 use xrf_ctl::Level;
 
@@ -52,8 +52,9 @@ fn copied_work(work: &Vec<Item>) -> Result<Vec<Item>, AllocError>
 }
 
 impl Scenario {
-    ghost use Rattle.xrf_setup.specs.Scenario.{Scen, IsScen, work_of};
+    ghost use Rattle.xrf_setup.specs.Scenario.{Scen, IsScen, work, limits};
     ghost use Rattle.xrf_setup.specs.Settings.{applid_of, level_at};
+    ghost use Rattle.xrf_base.specs.Ranges.{AreLimits};
 
     /// A scenario of these parts, the records by number.
     pub fn new(
@@ -144,6 +145,18 @@ impl Scenario {
         self.settings.file
     }
 
+    /// The sizes of the data sets: LOG, RING and FILE.
+    pub fn limits(&self) -> Limits
+        ensures limits { result ≡ limits self.now }
+        ensures ranges { AreLimits result }
+    {
+        Limits {
+            log: self.settings.log,
+            ring: self.settings.ring as u8,
+            file: self.settings.file,
+        }
+    }
+
     /// PACE: 10 to 200.
     pub fn pace(&self) -> u32
         ensures pace { result ≡ self.now.settings.pace }
@@ -213,7 +226,7 @@ impl Scenario {
 
     /// The work of a site, in order.
     pub fn work(&self, site: Site) -> &[Item]
-        ensures work { result.now ≡ work_of self.now site }
+        ensures work { result.now ≡ work self.now site }
         ensures scenario { IsScen self.now }
     {
         match site {

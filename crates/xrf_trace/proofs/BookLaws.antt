@@ -41,7 +41,7 @@ as_list f g a (suc n) same =
 
 -- the file is the book at each record where it is as a list, and the other way round
 pub at_each_record : (s : Scen) (t : List Entry) → IsBook s t → IsBookAt s t
-at_each_record s t is k from to = at_each (image s t) (λ n. slot_of (book s t n)) 1 s.limits.file is k from (omega arith)
+at_each_record s t is k from to = at_each (image s t) (λ n. slot_of (book s t n)) 1 s.settings.file is k from (omega arith)
 
 pub as_one : (s : Scen) (t : List Entry) → IsBookAt s t → IsBook s t
-as_one s t is = as_list (image s t) (λ n. slot_of (book s t n)) 1 s.limits.file (λ k from to. is k from (omega arith))
+as_one s t is = as_list (image s t) (λ n. slot_of (book s t n)) 1 s.settings.file (λ k from to. is k from (omega arith))

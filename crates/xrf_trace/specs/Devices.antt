@@ -94,7 +94,7 @@ log_slot_after slots _ land i before = before
 
 abbrev pub log_slot : Scen → List Entry → ℕ → Slot
 log_slot s [] i = zero_slot
-log_slot s (e ∷ t) i = log_slot_after s.limits.log e.act e.land i (log_slot s t i)
+log_slot s (e ∷ t) i = log_slot_after s.settings.log e.act e.land i (log_slot s t i)
 
 -- the two keypoint slots
 abbrev pub key_slot_after : Act → Land → (i : ℕ) → Slot → Slot

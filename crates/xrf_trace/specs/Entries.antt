@@ -7,8 +7,8 @@ use Rattle.xrf_cebt.specs.Reply.{reply_to}
 use Rattle.xrf_history.specs.Events.{Event, Commanded}
 use Rattle.xrf_history.specs.Holding.{number, is_granted, is_waiting}
 use Rattle.xrf_history.specs.Deciding.{takeovr, surveillance}
-use Rattle.xrf_forms.specs.declared.choice.Choice.{Choice}
-use Rattle.xrf_forms.specs.declared.choice.Choice.TheVariants as choice
+use Rattle.xrf_setup.specs.declared.choice.Choice.{Choice}
+use Rattle.xrf_setup.specs.declared.choice.Choice.TheVariants as choice
 use Rattle.xrf_trace.specs.declared.entry.Entry.{Entry}
 use Rattle.xrf_trace.specs.declared.entry.Act.{Act}
 use Rattle.xrf_trace.specs.declared.entry.Act.TheVariants as act

@@ -18,7 +18,7 @@ is_restart _ = false
 
 -- the record numbers, 1 to FILE
 abbrev pub numbers : Scen → List ℕ
-numbers s = range_with_len 1 s.limits.file
+numbers s = range_with_len 1 s.settings.file
 
 -- the slot of each record of the file is the slot of the book
 abbrev pub IsBook : Scen → List Entry → Type 0
@@ -26,7 +26,7 @@ IsBook s t = map (image s t) (numbers s) ≡ map (λ k. slot_of (book s t k)) (n
 
 -- the same, said of a record
 abbrev pub IsBookAt : Scen → List Entry → Type 0
-IsBookAt s t = (k : ℕ) → 1 ≤ k → k ≤ s.limits.file → image s t k ≡ slot_of (book s t k)
+IsBookAt s t = (k : ℕ) → 1 ≤ k → k ≤ s.settings.file → image s t k ≡ slot_of (book s t k)
 
 abbrev pub RestartsAtBook : Scen → List Entry → Entry → Type 0
 RestartsAtBook s t e = Where (is_restart e.act) (IsBook s t × (flight (log t) ≡ []))

@@ -59,8 +59,8 @@ number_of_job job = option_map_or number job 0
 -- units, and the Puts that the log has of them.
 abbrev pub ledger_by : Scen → List Entry → Site → Opened → Ledger
 ledger_by s t x o = record {
-  slots = s.limits.log;
-  records = s.limits.file;
+  slots = s.settings.log;
+  records = s.settings.file;
   inc = number_of_job (hist s t x);
   begun = o.begun;
   next = length (log t);

@@ -1,8 +1,8 @@
 -- What of an act landed.
 use Rattle.xrf_gated.specs.declared.gated.TheConstants.{OPEN}
 use Rattle.std.specs.Prelude.{ℕ, ◌==◌, Bool, true, false, List, [], ◌∷◌, Option, Some, None}
-use Rattle.xrf_forms.specs.declared.choice.Landing.{Landing}
-use Rattle.xrf_forms.specs.declared.choice.Landing.TheVariants.{Nothing, All, Torn}
+use Rattle.xrf_setup.specs.declared.choice.Landing.{Landing}
+use Rattle.xrf_setup.specs.declared.choice.Landing.TheVariants.{Nothing, All, Torn}
 use Rattle.xrf_trace.specs.declared.entry.Land.{Land}
 use Rattle.xrf_trace.specs.declared.entry.Land.TheVariants.{Full, Lost, Stop, Fail}
 

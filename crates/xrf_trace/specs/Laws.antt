@@ -1,7 +1,7 @@
 -- What holds of every run.
 use Rattle.std.specs.Prelude.{◌≡◌, ◌≤◌, ◌↔◌, IsTrue, ℕ, false, ◌&&◌, List, ◌∷◌, ◌++◌, length, take, slice_get, Some, None, IfSome, Ok, Err, IfOk}
-use Rattle.xrf_forms.specs.declared.choice.Choice.{Choice}
-use Rattle.xrf_forms.specs.declared.choice.Choice.TheVariants as choice
+use Rattle.xrf_setup.specs.declared.choice.Choice.{Choice}
+use Rattle.xrf_setup.specs.declared.choice.Choice.TheVariants as choice
 use Rattle.xrf_trace.specs.declared.entry.Entry.{Entry}
 use Rattle.xrf_base.specs.declared.site.Site.{Site}
 use Rattle.xrf_base.specs.declared.site.Site.TheVariants as site
@@ -10,7 +10,7 @@ use Rattle.xrf_history.specs.Events.{Event}
 use Rattle.xrf_history.specs.Working.{item_answer}
 use Rattle.xrf_history.specs.Next.{next}
 use Rattle.xrf_history.specs.Answers.{fits, event}
-use Rattle.xrf_trace.specs.Scenario.{Scen, settings}
+use Rattle.xrf_trace.specs.Scenario.{Scen, IsScen, settings}
 use Rattle.xrf_trace.specs.Landing.{is_in_full}
 use Rattle.xrf_trace.specs.Jobs.{handed}
 use Rattle.xrf_trace.specs.Acts.{act_of}
@@ -28,7 +28,7 @@ use Rattle.xrf_trace.specs.OneOwner.{OneOwner, has_active}
 use Rattle.xrf_trace.specs.UnitsAreItems.{UnitsAreItems}
 use Rattle.xrf_trace.specs.Safe.{Safe}
 use Rattle.xrf_trace.specs.Promises.{Promises}
-use Rattle.xrf_trace.specs.Ranges.{IsInRanges, most_entries}
+use Rattle.xrf_setup.specs.declared.ranges.TheConstants.{CHOICES_MOST}
 
 -- the trace of a run of choices is that of a run, with an entry for each choice
 abbrev pub RunsAreRuns : Type 0
@@ -88,10 +88,9 @@ Grows s t e =
 abbrev pub BooksGrow : Type 0
 BooksGrow = (s : Scen) (t : List Entry) → UnitsAreItems s t → Each (Grows s) t
 
--- THE HEADLINE, stated here and proved above: of every scenario that keeps its ranges, every run is safe and keeps the
--- promises.
+-- THE HEADLINE, stated here and proved above: every run of a scenario is safe and keeps the promises.
 abbrev pub RunsAreSafe : Type 0
-RunsAreSafe = (s : Scen) (t : List Entry) → IsInRanges s → IsRun s t → length t ≤ most_entries → Safe s t × Promises s t
+RunsAreSafe = (s : Scen) (t : List Entry) → IsScen s → IsRun s t → length t ≤ CHOICES_MOST → Safe s t × Promises s t
 
 -- Stated here and proved above too: an act that is made in full answers the item at hand as its job has it.
 abbrev pub AnswersAlike : Scen → List Entry → Entry → Type 0
@@ -100,4 +99,4 @@ AnswersAlike s t e =
     (AtSite s t e.who (λ x h. answer_by s t x e.act ≡ item_answer (settings s x) (handed s t x e.tick h e.act ∷ h)))
 
 abbrev pub JobsAnswerAlike : Type 0
-JobsAnswerAlike = (s : Scen) (t : List Entry) → IsInRanges s → IsRun s t → length t ≤ most_entries → Each (AnswersAlike s) t
+JobsAnswerAlike = (s : Scen) (t : List Entry) → IsScen s → IsRun s t → length t ≤ CHOICES_MOST → Each (AnswersAlike s) t

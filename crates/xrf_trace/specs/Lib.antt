@@ -32,5 +32,4 @@ pub mod TerminalsAreTold
 pub mod NextIsDue
 pub mod StartsAsWritten
 pub mod Promises
-pub mod Ranges
 pub mod Laws

@@ -7,10 +7,10 @@ use Rattle.xrf_exit.specs.Exit.{is_allowed}
 use Rattle.xrf_history.specs.Events.{Event}
 use Rattle.xrf_history.specs.Notices.{notice}
 use Rattle.xrf_history.specs.Accepting.{may_abend, may_reply, may_command}
-use Rattle.xrf_forms.specs.declared.choice.Choice.{Choice}
-use Rattle.xrf_forms.specs.declared.choice.Choice.TheVariants as choice
-use Rattle.xrf_forms.specs.declared.choice.Landing.{Landing}
-use Rattle.xrf_forms.specs.declared.choice.Landing.TheVariants as landing
+use Rattle.xrf_setup.specs.declared.choice.Choice.{Choice}
+use Rattle.xrf_setup.specs.declared.choice.Choice.TheVariants as choice
+use Rattle.xrf_setup.specs.declared.choice.Landing.{Landing}
+use Rattle.xrf_setup.specs.declared.choice.Landing.TheVariants as landing
 use Rattle.xrf_trace.specs.declared.entry.Entry.{Entry}
 use Rattle.xrf_trace.specs.declared.entry.Act.{Act}
 use Rattle.xrf_trace.specs.declared.entry.Act.TheVariants as act

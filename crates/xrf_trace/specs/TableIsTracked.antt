@@ -15,7 +15,7 @@ use Rattle.xrf_trace.specs.Each.{Each, Where, AtSite}
 -- for a start in place both are empty
 abbrev pub IsTracked : Scen → List Entry → Entry → Site → List Event → Type 0
 IsTracked s t e x h =
-    (table (settings s x) (RestartDeclared ∷ h) ≡ settled s.force (tracked (e ∷ t) e.inc))
+    (table (settings s x) (RestartDeclared ∷ h) ≡ settled s.settings.force (tracked (e ∷ t) e.inc))
     × Where (starts_active h) ((table (settings s x) (RestartDeclared ∷ h) ≡ []) × (tracked (e ∷ t) e.inc ≡ []))
 
 abbrev pub RestartsTracked : Scen → List Entry → Entry → Type 0

@@ -65,7 +65,7 @@ is_all_sent s from = is_caught_up from.history && is_none (message_due (settings
 
 abbrev pub KeepsTable : Scen → Site → List Event → Sender → Type 0
 KeepsTable s x h from =
-    Where (is_all_sent s from) (table (settings s x) (RestartDeclared ∷ h) ≡ settled s.force (told_of_job s from.site from.history))
+    Where (is_all_sent s from) (table (settings s x) (RestartDeclared ∷ h) ≡ settled s.settings.force (told_of_job s from.site from.history))
 
 abbrev pub LacksDue : Scen → List Row → Sender → Type 0
 LacksDue s rows from = Where (is_caught_up from.history) (with_due s from.site from.history rows ≡ told_of_job s from.site from.history)

@@ -5,10 +5,10 @@ use xrf_cavm::Decided;
 use xrf_cebt::{Cebt, CebtReply};
 use xrf_ctl::{Control, Signal};
 use xrf_exit::ExitAnswer;
-use xrf_forms::Landing;
 use xrf_history::EndWhy;
 use xrf_logrec::{Keypoint, LogRec};
 use xrf_msg::Message;
+use xrf_setup::Landing;
 
 /// What an accepted choice did: at which tick, at which site, by which incarnation (0 where it has none), by
 /// which act, and what of it landed.

@@ -77,6 +77,10 @@ class Long:
                 self.acts_of("A", 1, f"LOGBODY {first + 1} COMMIT {unit}", f"LOGOPEN {first + 1} COMMIT {unit}")
         self.records += 2
 
+    def choice(self, site: str, incarnation: str, text: str) -> str:
+        verb, _, rest = text.partition(" ")
+        return "TICK" if site == "-" else f"START {site} {rest}" if verb == "START" else f"STEP {site}"
+
     def text(self) -> str:
         self.start()
         while len(self.acts) < self.most:
@@ -86,5 +90,6 @@ class Long:
             self.round("B", 2)
             for _ in range(3):
                 self.unit()
-        head = ["XRF 1", "LOG 1024", *self.work, "CHOICES", "END"]
+        choices = [self.choice(*line.split(" ", 6)[4:]) for line in self.acts]
+        head = ["XRF 1", "LOG 1024", *self.work, "CHOICES", *choices, "END"]
         return "\n".join([*head, *self.acts, *self.answers, f"* TICK {self.tick}", "* DONE", ""])

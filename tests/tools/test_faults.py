@@ -45,10 +45,13 @@ class Faults(unittest.TestCase):
 
     def test_what_is_no_document(self) -> None:
         self.assertIn("refused", self.fault("draw", self.given("XRF REFUSED LINE 7 NOT-ENABLED\n")))
-        self.assertIn("line 1", self.fault("draw", self.given("hello\n* DONE\n")))
+        for text in ("", "hello\n* DONE\n", "XRF 3\nCHOICES\nEND\n"):
+            self.assertIn("no scenario and no document", self.fault("draw", self.given(text)))
+        self.assertIn("line 2", self.fault("draw", self.given("XRF 1\nhello\n* DONE\n")))
         self.assertIn("byte", self.fault("draw", self.given("XRF 1\nCHOICES\nEND\n* caf\u00e9\n")))
         whole = runs.path(runs.TAKEOVER).read_text()
         self.assertIn("no whole report", self.fault("draw", self.given(whole.replace("* DONE\n", ""))))
+        self.assertIn("not that of its choices", self.fault("draw", self.given(whole.replace("STEP A\n", "", 1))))
         self.assertIn("act 299", self.fault("draw", self.given(whole.replace("B 2 UNDO 1", "B 2 UNDO 2"))))
         self.assertIn("is no act", self.fault("draw", self.given(whole.replace("B 2 UNDO 1", "B 2 DO 1"))))
 

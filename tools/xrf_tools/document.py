@@ -197,7 +197,16 @@ def read(name: str, text: str) -> Document:
         raise Fault(f"{name}: it ends without END")
     if reading.document.report.lines[-1:] != ["DONE"]:
         raise Fault(f"{name}: it has no whole report; xrf replay writes one")
+    if not are_of(reading.document.choices, reading.document.entries):
+        raise Fault(f"{name}: its report is not that of its choices; xrf replay writes one anew")
     return reading.document
+
+
+def are_of(choices: list[str], entries: list[Entry]) -> bool:
+    """Whether there is an ACT line of its site for each choice; a document has its choices without counts."""
+    words = [choice.split(" ") for choice in choices]
+    sites = ["-" if word[0] in ("TICK", "CONFIRM") else word[1] if len(word) > 1 else "" for word in words]
+    return sites == [entry.site for entry in entries]
 
 
 def has_report(text: str) -> bool:

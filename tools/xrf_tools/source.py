@@ -56,13 +56,22 @@ def written(text: str, name: str) -> str:
     return answer.text
 
 
+def has_header(text: str) -> bool:
+    """Whether the first line that is not skipped is a header."""
+    lines = (line.split() for line in text.split("\n") if line.strip() and not line.startswith("#"))
+    return next(lines, []) in (["XRF", "1"], ["XRF", "2"])
+
+
 def name_of(path: str) -> str:
     return "standard input" if path == "-" else path
 
 
 def load(path: str) -> Document:
     """The document in a file, or of the scenario in it."""
-    text, answer = given_and_written(path, None)
+    text = read_text(path)
+    if not (text.startswith(REFUSED) or has_header(text)):
+        raise Fault(f"{name_of(path)} is no scenario and no document: it does not begin with XRF 1 or XRF 2")
+    text, answer = text_and_written(text, path)
     if answer.startswith(REFUSED):
         raise Fault(f"{name_of(path)} is no run but refused: {answer.strip()}; xrf explain says more")
     return read(name_of(path), answer)
@@ -71,8 +80,10 @@ def load(path: str) -> Document:
 def given_and_written(path: str, answer: str | None) -> tuple[str, str]:
     """A text, and what the program wrote of it; a refusal alone comes without its text."""
     text = read_text(path)
-    if answer is not None:
-        return text, read_text(answer)
+    return (text, read_text(answer)) if answer is not None else text_and_written(text, path)
+
+
+def text_and_written(text: str, path: str) -> tuple[str, str]:
     if text.startswith(REFUSED):
         return "", text
     return text, text if has_report(text) else written(text, name_of(path))

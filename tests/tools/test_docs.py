@@ -56,6 +56,13 @@ class Commands(unittest.TestCase):
         for command in filter(wants_program, commands()):
             self.check(command)
 
+    @unittest.skipUnless(is_current(), "the program is not built, so no refusal of it was told")
+    def test_how_many_steps_can_be_made_is_told(self) -> None:
+        done = self.run_in_room("printf 'XRF 1\\nCHOICES\\nSTART A ACTIVE\\nSTEP A 30\\nEND\\n' | ./xrf explain -")
+        self.assertIn("1 act was made", done.stdout)
+        self.assertIn("Right would be: STEP A 11.", done.stdout)
+        self.assertEqual(done.stderr, "")
+
     @unittest.skipUnless(is_current(), "the program is not built, so the short session of README was not run")
     def test_the_short_session_is_what_is_written(self) -> None:
         text = "\n".join(re.findall(r"^    (.*)$", README.split("## A short session")[1].split("\n## ")[0], re.M))

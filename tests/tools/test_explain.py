@@ -142,8 +142,10 @@ class Refusals(unittest.TestCase):
                 self.assertEqual((status, out, err.count("\n")), (1, "", 1))
 
 
-# A stand-in of the launcher: it refuses a text with the line STEP A 99, and writes a stored document of any other.
+# A stand-in of the launcher, and of the program: it refuses a text with the line STEP A 99, and writes a stored
+# document of any other.
 LAUNCHER = """#!/usr/bin/env bash
+[ "$1" != --program ] || { echo "$0"; exit 0; }
 text=$(cat)
 case $text in *"STEP A 99"*) echo "XRF REFUSED LINE 4 NOT-ENABLED"; exit 8 ;; *DOWN*) exit 24 ;; esac
 cat "$STORED"

@@ -169,9 +169,13 @@ def too_high(refused: Refused) -> Iterator[str]:
 
 # What stood before a choice that can't be made: the text up to its line is replayed.
 
+def replayed(refused: Refused, *lines: str) -> Answer:
+    """What the program makes of the text before the line, with these lines in its place."""
+    return replay("\n".join([*refused.lines[: refused.number - 1], *lines, "END", ""]))
+
+
 def before(refused: Refused) -> Iterator[str]:
-    head = "\n".join([*refused.lines[: refused.number - 1], "END", ""])
-    answer: Answer = replay(head)
+    answer = replayed(refused)
     if answer.status != 0:
         return
     document = read("the text before the line", answer.text)
@@ -187,7 +191,20 @@ def stood(standing: Standing) -> str:
     for site, job in standing.jobs.items():
         regions.append(f"{site} is {job.state.lower()}" if job else f"no region is at {site}")
     acts = len(standing.document.entries)
-    return f"Before this line it is tick {standing.tick}; {' and '.join(regions)}; {acts} acts were made."
+    made = "1 act was made" if acts == 1 else f"{acts} acts were made"
+    return f"Before this line it is tick {standing.tick}; {' and '.join(regions)}; {made}."
+
+
+def most_steps(refused: Refused, site: str, count: int) -> int:
+    """How many of `count` steps of a site can be made, fewer than all."""
+    low, high = 0, count - 1
+    while low < high:
+        middle = (low + high + 1) // 2
+        if replayed(refused, f"STEP {site} {middle}").status == 0:
+            low = middle
+        else:
+            high = middle - 1
+    return low
 
 
 def advice(refused: Refused, standing: Standing) -> str:
@@ -206,6 +223,7 @@ def advice(refused: Refused, standing: Standing) -> str:
         answers = ["ABEND"] if job.notice == "TAKEOVER SEEN" else ["KEEP", "DROP"]
         return f"{site} waits for its status exit. Right would be: {'; or '.join(f'EXIT {site} {it}' for it in answers)}."
     if words[0] == "STEP":
-        has = f"has not {count} acts to make" if count > 1 else "has nothing to do"
-        return f"{site} {has} here. What it waits for may be a TICK, work, or the release of the control data set."
+        most = most_steps(refused, site, count) if 1 < count < 10_000 else 0
+        right = f"Right would be: STEP {site} {most}. " if most else f"{site} has nothing to do here. "
+        return f"{right}What it waits for then may be a TICK, work, or the release of the control data set."
     return f"What {words[0]} may be said of is in docs/SCENARIOS.md."

@@ -28,15 +28,6 @@ def launcher() -> str:
     return os.environ.get("XRF_LAUNCHER") or str(Path(__file__).resolve().parents[2] / "xrf")
 
 
-def replay(text: str) -> Answer:
-    """What the program makes of a scenario; what the launcher says stays on standard error."""
-    try:
-        done = subprocess.run([launcher(), "replay", "-"], input=text.encode("ascii"), stdout=subprocess.PIPE, check=False)
-    except OSError as error:
-        raise Fault(f"the program could not be run: {error.strerror}") from None
-    return Answer(done.stdout.decode("ascii", "replace"), done.returncode)
-
-
 def built_program() -> str:
     """Where the program is, which the launcher builds first where it has to."""
     try:
@@ -46,6 +37,15 @@ def built_program() -> str:
     if done.returncode != 0:
         raise Fault("there is no program to run")
     return done.stdout.strip()
+
+
+def replay(text: str) -> Answer:
+    """What the program makes of a scenario."""
+    try:
+        done = subprocess.run([built_program(), "replay"], input=text.encode("ascii"), stdout=subprocess.PIPE, check=False)
+    except OSError as error:
+        raise Fault(f"the program could not be run: {error.strerror}") from None
+    return Answer(done.stdout.decode("ascii", "replace"), done.returncode)
 
 
 def written(text: str, name: str) -> str:

@@ -3,3 +3,14 @@ pub mod BookLaws
 pub mod HandingLaws
 pub mod PromiseLaws
 pub mod ScenarioLaws
+pub mod Sites
+pub mod Steps
+pub mod Short
+pub mod JobSteps
+pub mod TraceActs
+pub mod ByKind
+pub mod Moves
+pub mod MoveLaws
+pub mod Paths
+pub mod EachJob
+pub mod AtSites

@@ -1,5 +1,5 @@
 -- An item is taken only once its job is restarted.
-use Rattle.std.proofs.Common.{◌≡◌, Bool, true, List, Option, Some, None, IfSome, refl}
+use Rattle.std.proofs.Common.{◌≡◌, true, List, Option, Some, None, IfSome}
 use Rattle.xrf_history.specs.declared.settings.Settings.{Settings}
 use Rattle.xrf_history.specs.declared.want.Want.{Want}
 use Rattle.xrf_history.specs.declared.want.Want.TheVariants as want

@@ -80,6 +80,41 @@ suited-step p h _ is comes suited = suited
 pub suited : (p : Settings) (h : List Event) → IsHistory p h → before_write (phase p h) ≡ true → Suits (purpose h) (is_granted h) (is_owner h)
 suited p h is = induct IsSuited (λ p. λ early. absurd (cc)) (λ p. λ early. absurd (cc)) suited-step p h is
 
+-- a job that holds no number reserves to sign on, as it was started
+sign-on-now : (h : List Event) → is_granted h ≡ false → purpose_now h ≡ elim (starts_active h) [ true ↦ SignOnActive | false ↦ SignOnStandby ]
+sign-on-now h fresh =
+    ap (λ (g : Bool). elim g [
+      | false ↦ elim (starts_active h) [ true ↦ SignOnActive | false ↦ SignOnStandby ]
+      | true ↦ elim (is_owner h) [ true ↦ purpose_of_owner (sign_off_due h) | false ↦ purpose_of_alternate (leaves h) (start_due h) ]
+    ]) fresh
+
+-- until it writes its purpose is to sign on so
+abbrev SignsOn : Settings → List Event → Type 0
+SignsOn p h = before_write (phase p h) ≡ true → is_granted h ≡ false → purpose h ≡ elim (starts_active h) [ true ↦ SignOnActive | false ↦ SignOnStandby ]
+
+-- each event keeps it
+signs-step : (p : Settings) (h : List Event) (e : Event) → IsHistory p h → Comes p h e → SignsOn p h → SignsOn p (e ∷ h)
+signs-step p h StartedActive is comes signs = absurd comes
+signs-step p h StartedStandby is comes signs = absurd comes
+signs-step p h Reserved is comes signs = λ early fresh. sign-on-now h fresh
+signs-step p h (ControlRead held known) is comes signs = λ early. signs (ap before_write (read-phase p h is comes))
+signs-step p h (ControlWritten w) is comes signs = λ early. absurd (cc)
+signs-step p h Released is comes signs = λ early. absurd (not-early (after_release p h) early)
+  where
+    not-early : (o : Option Want) → before_write (released o) ≡ true → ⊥
+    not-early None same = absurd (cc)
+    not-early (Some w) same = absurd (cc)
+signs-step p h _ is comes signs = signs
+
+-- **until a job that holds no number writes, its purpose is to sign on as it was started**
+pub signs-on : (p : Settings) (h : List Event) → IsHistory p h → SignsOn p h
+signs-on p h is = induct SignsOn (λ p. λ early. absurd (cc)) (λ p. λ early. absurd (cc)) signs-step p h is
+
+-- a purpose to sign on as active is of a job that was started so
+pub active-of : (active : Bool) → elim active [ true ↦ SignOnActive | false ↦ SignOnStandby ] ≡ SignOnActive → active ≡ true
+active-of true is = refl
+active-of false is = absurd (cc)
+
 -- a decision that is open is the last one
 open-last : (h : List Event) (d : Decided) → open_decision h ≡ Some d → last_decision h ≡ Some d
 open-last [] d is = absurd (cc)

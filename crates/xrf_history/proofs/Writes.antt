@@ -42,7 +42,7 @@ Wrote p SignOnActive me c known w =
 Wrote p SignOnStandby me c known w =
     (owner_is c Running ≡ true) × (is_at c.owner p.site ≡ false)
     × (w ≡ of_parts c.format (c.last + 1) c.owner (Some (record { inc = c.last + 1; site = p.site })) None)
-    × (is_foreign p.level c.format ≡ false)
+    × (is_foreign p.level c.format ≡ false) × (alt_may_run c known ≡ false)
 Wrote p (SignOff state) me c known w = (names_owner c me ≡ true) × (w ≡ record c { owner = with_state state c.owner })
 Wrote p DropAlternate me c known w = (c.taking ≡ None) × (w ≡ record c { alt = None })
 Wrote p (Leave reason) me c known w = (is_alt c me ≡ true) × (w ≡ record c { alt = None; taking = None })

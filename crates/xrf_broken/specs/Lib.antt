@@ -1,0 +1,9 @@
+pub mod Steps
+pub mod Owners
+pub mod Hands
+pub mod Restarts
+pub mod Starts
+pub mod Throughs
+pub mod Silence
+pub mod Units
+pub mod Terminals

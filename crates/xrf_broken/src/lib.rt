@@ -1,0 +1,12 @@
+//! Broken traces: what pairs must not do, each with the part of what is safe or promised that is false of it, by computing.
+#![tactic(auto)]
+
+pub mod hands;
+pub mod owners;
+pub mod promises;
+pub mod restarts;
+pub mod silence;
+pub mod starts;
+pub mod terminals;
+pub mod throughs;
+pub mod units;

@@ -21,7 +21,8 @@ use Rattle.xrf_forms.proofs.LineAgain.{clt_again}
 use Rattle.xrf_forms.specs.Places.{behind}
 use Rattle.xrf_forms.specs.Table.{settings_of}
 use Rattle.xrf_scenario.specs.Canonical.{clt_said}
-use Rattle.xrf_setup.specs.Commands.{is_text_byte, kept_text, IsKept}
+use Rattle.xrf_setup.specs.Commands.{kept_text, IsKept}
+use Rattle.xrf_text.specs.Text.{is_printable}
 use Rattle.xrf_scenario.specs.Reading.{Says, SaysAll}
 use Rattle.xrf_scenario.specs.SoFar.{SoFar}
 use Rattle.xrf_scenario.specs.Taking.{take, with_room}
@@ -100,14 +101,14 @@ name-bytes [] all = tt
 name-bytes (b ∷ bs) all = (name-byte b (and_parts (is_name_byte b) (list_all is_name_byte bs) all).0, name-bytes bs (and_parts (is_name_byte b) (list_all is_name_byte bs) all).1)
 
 -- a byte that passes the test is from blank to `~`
-text-byte : (b : ℕ) → IsTrue (is_text_byte b) → IsIn 32 126 b
+text-byte : (b : ℕ) → IsTrue (is_printable b) → IsIn 32 126 b
 text-byte b is = (leb-true 32 b (and_parts (nat_le 32 b) (nat_le b 126) is).0, leb-true b 126 (and_parts (nat_le 32 b) (nat_le b 126) is).1)
 
 -- the bytes of what is written of a line are from blank to `~`
 kept-bytes : (k : Kept) → IsKept k → AllByRecursion (IsIn 32 126) (codes "CLT " ++ kept_text k)
 kept-bytes k is =
     all-both (IsIn 32 126) (codes "CLT ") (kept_text k) clt
-    (all-both (IsIn 32 126) (k.applid ++ codes " ") k.text (all-both (IsIn 32 126) k.applid (codes " ") (name-bytes k.applid characters) blank) (all-then (λ (b : ℕ). IsTrue (is_text_byte b)) (IsIn 32 126) text-byte k.text is.bytes))
+    (all-both (IsIn 32 126) (k.applid ++ codes " ") k.text (all-both (IsIn 32 126) k.applid (codes " ") (name-bytes k.applid characters) blank) (all-then (λ (b : ℕ). IsTrue (is_printable b)) (IsIn 32 126) text-byte k.text is.bytes))
   where
     clt : AllByRecursion (IsIn 32 126) (codes "CLT ")
     clt = ((omega arith, omega arith), ((omega arith, omega arith), ((omega arith, omega arith), ((omega arith, omega arith), tt))))

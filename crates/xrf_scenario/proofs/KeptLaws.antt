@@ -18,7 +18,8 @@ use Rattle.xrf_forms.specs.declared.reason.Reason.{Reason}
 use Rattle.xrf_forms.specs.declared.reason.Reason.TheVariants.{BadByte, LongLine}
 use Rattle.xrf_forms.proofs.FoundLaws.{clt_found, is_clt_form}
 use Rattle.xrf_scenario.specs.Lines.{bytes_fault}
-use Rattle.xrf_setup.specs.Commands.{is_text_byte, IsKept, kept_text}
+use Rattle.xrf_setup.specs.Commands.{IsKept, kept_text}
+use Rattle.xrf_text.specs.Text.{is_printable}
 
 -- words of a form of the command list have no fault behind the first
 cancel-fault : (ws : List (List ℕ)) → AreOfForm (parts_of form.CltCancel) ws → fault_of (behind ws) ≡ None
@@ -133,18 +134,18 @@ joined-short line =
     omega (arith, shorter, whole)
 
 -- a line without a fault of its bytes
-pub bytes-kept : (line : List ℕ) → bytes_fault line ≡ None → (list_all is_text_byte line ≡ true) × (length line ≤ 300)
-bytes-kept line h = by (list_all is_text_byte line) (nat_lt 300 (length line)) refl refl h
+pub bytes-kept : (line : List ℕ) → bytes_fault line ≡ None → (list_all is_printable line ≡ true) × (length line ≤ 300)
+bytes-kept line h = by (list_all is_printable line) (nat_lt 300 (length line)) refl refl h
   where
-    by : (all long : Bool) → list_all is_text_byte line ≡ all → nat_lt 300 (length line) ≡ long
-        → ◌≡◌ {A = Option Reason} (if not all then Some BadByte else if long then Some LongLine else None) None → (list_all is_text_byte line ≡ true) × (length line ≤ 300)
+    by : (all long : Bool) → list_all is_printable line ≡ all → nat_lt 300 (length line) ≡ long
+        → ◌≡◌ {A = Option Reason} (if not all then Some BadByte else if long then Some LongLine else None) None → (list_all is_printable line ≡ true) × (length line ≤ 300)
     by true true e l k = absurd (cc)
     by true false e l k = (e, omega (arith, ltb-false 300 (length line) l))
     by false long e l k = absurd (cc)
 
-each-byte : (line : List ℕ) → list_all is_text_byte line ≡ true → AllByRecursion (λ (b : ℕ). IsTrue (is_text_byte b)) line
+each-byte : (line : List ℕ) → list_all is_printable line ≡ true → AllByRecursion (λ (b : ℕ). IsTrue (is_printable b)) line
 each-byte [] h = tt
-each-byte (b ∷ bs) h = ((and_parts (is_text_byte b) (list_all is_text_byte bs) h).0, each-byte bs (and_parts (is_text_byte b) (list_all is_text_byte bs) h).1)
+each-byte (b ∷ bs) h = ((and_parts (is_printable b) (list_all is_printable bs) h).0, each-byte bs (and_parts (is_printable b) (list_all is_printable bs) h).1)
 
 -- what is kept of a line of the command list is within its bounds
 pub clt-kept : (format : Format) (line : List ℕ) → bytes_fault line ≡ None → line_of (settings_of format) (words line) ≡ Ok Clt → IsKept (words_kept (behind (words line)))
@@ -153,7 +154,7 @@ clt-kept format line plain h = by (words line) (clt-fault format (words line) h)
     short : length (join_with_byte 32 (words line)) ≤ 300
     short = let all = joined-short line in let few = (bytes-kept line plain).1 in omega (arith, all, few)
 
-    by : (ws : List (List ℕ)) → fault_of (behind ws) ≡ None → AllByRecursion IsWord ws → AllByRecursion (AllByRecursion (λ (b : ℕ). IsTrue (is_text_byte b))) ws
+    by : (ws : List (List ℕ)) → fault_of (behind ws) ≡ None → AllByRecursion IsWord ws → AllByRecursion (AllByRecursion (λ (b : ℕ). IsTrue (is_printable b))) ws
         → length (first ws) ≡ 3 → length (join_with_byte 32 ws) ≤ 300 → IsKept (words_kept (behind ws))
     by [] fault are bytes three few = absurd (cc)
     by (word ∷ []) fault are bytes three few = absurd (cc)

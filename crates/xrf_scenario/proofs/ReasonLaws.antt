@@ -25,7 +25,7 @@ use Rattle.xrf_forms.proofs.FaultLaws.{IsLineTold, line-told, form_passes, one-f
 use Rattle.xrf_forms.proofs.FormLaws.{line-found}
 use Rattle.xrf_scenario.specs.Built.{allows, allows_format}
 use Rattle.xrf_scenario.specs.Lines.{is_skipped, is_report, bytes_fault}
-use Rattle.xrf_setup.specs.Commands.{is_text_byte}
+use Rattle.xrf_text.specs.Text.{is_printable}
 use Rattle.xrf_scenario.specs.Reading.{begun}
 use Rattle.xrf_scenario.specs.Machine.{if_built, take_line, take_header, take_words, step}
 use Rattle.xrf_scenario.specs.Reasons.{header_words, forms_of, has_forms, SpellsNext, is_given, is_over, falls, is_outside, SpellsBad, HoldsOfText, Holds}
@@ -190,7 +190,7 @@ take-by number so ws End = (record so { part = Whole }, refl)
 -- what is known of a line that is tested by the forms of its part
 record IsTested (so : SoFar) (text : List ℕ) : Type 0 where
   has : has_forms so.part ≡ true
-  bytes : list_all is_text_byte text ≡ true
+  bytes : list_all is_printable text ≡ true
   short : length text ≤ 300
   apart : are_apart (forms_of so.part so.format) ≡ true
   not_start : so.part ≢ Start
@@ -382,7 +382,7 @@ header-found ws format h = by (bytes_eq (first ws) (codes "XRF")) (are_two ws) (
     by true true false false e f g i k = absurd (cc)
 
 -- what is told of a first line
-start-told : (forms : Forms) (so : SoFar) (text : List ℕ) → so.part ≡ Start → list_all is_text_byte text ≡ true → length text ≤ 300
+start-told : (forms : Forms) (so : SoFar) (text : List ℕ) → so.part ≡ Start → list_all is_printable text ≡ true → length text ≤ 300
     → IsToldOf (Holds forms so text) (take_header forms so (header_of (words text)))
 start-told forms so text here bytes short = told-of (Holds forms so text) (OfHeader forms (words text)) (take_header forms so (header_of (words text))) to back (header-told forms so (words text))
   where
@@ -439,9 +439,9 @@ whole-told forms so text here = by (is_report text) refl
 -- a byte fault comes before all reasons behind it
 bytes-first : (forms : Forms) (so : SoFar) (text : List ℕ) → so.part ≢ Whole → is_whole so.part ≡ false → list_all form_passes (forms_of so.part so.format) ≡ true
     → (reason : Reason) → bytes_fault text ≡ Some reason → IsFirst (Holds forms so text) reason
-bytes-first forms so text not_whole before passes reason fault = by (list_all is_text_byte text) (nat_lt 300 (length text)) refl refl fault
+bytes-first forms so text not_whole before passes reason fault = by (list_all is_printable text) (nat_lt 300 (length text)) refl refl fault
   where
-    behind-long : (other : Reason) → (list_all is_text_byte text ≡ true ⊎ (other ≡ BadByte → ⊥)) → Holds forms so text other → 2 ≤ rank other
+    behind-long : (other : Reason) → (list_all is_printable text ≡ true ⊎ (other ≡ BadByte → ⊥)) → Holds forms so text other → 2 ≤ rank other
     behind-long other ok (inr h) = let of : 7 ≤ rank other = (words-told (forms_of so.part so.format) (words text) other passes h.1).0 in omega (arith, of)
     behind-long BadByte (inl all) (inl h) = let clash : true ≡ false = sym all ∙ h.1 in absurd (cc)
     behind-long BadByte (inr other) (inl h) = absurd (other refl)
@@ -460,7 +460,7 @@ bytes-first forms so text not_whole before passes reason fault = by (list_all is
     behind-byte BadByte h = omega arith
     behind-byte other h = let low : 2 ≤ rank other = behind-long other (inr (λ (e : other ≡ BadByte). cc)) h in omega (arith, low)
 
-    by : (all long : Bool) → list_all is_text_byte text ≡ all → nat_lt 300 (length text) ≡ long
+    by : (all long : Bool) → list_all is_printable text ≡ all → nat_lt 300 (length text) ≡ long
         → ◌≡◌ {A = Option Reason} (if not all then Some BadByte else if long then Some LongLine else None) (Some reason) → IsFirst (Holds forms so text) reason
     by false long e l k =
         let same : BadByte ≡ reason = cc in

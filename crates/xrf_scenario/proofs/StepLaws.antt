@@ -17,7 +17,7 @@ use Rattle.xrf_forms.proofs.LineAgain.{header_plain, setting_plain, setting_agai
 use Rattle.xrf_scenario.specs.Built.{allows, allows_format}
 use Rattle.xrf_scenario.specs.Canonical.{IsReportLine}
 use Rattle.xrf_scenario.specs.Lines.{begins_with, are_none, is_skipped, is_report, bytes_fault}
-use Rattle.xrf_setup.specs.Commands.{is_text_byte}
+use Rattle.xrf_text.specs.Text.{is_printable}
 use Rattle.xrf_scenario.specs.Reading.{begun, SaysIn, SaysThen, Says, SaysAll}
 use Rattle.xrf_scenario.specs.SoFar.{SoFar, is_whole}
 use Rattle.xrf_scenario.specs.Taking.{take}
@@ -36,7 +36,7 @@ pub plain-clean : (line : List ℕ) → IsPlain line → IsClean line
 plain-clean line plain = all-then (IsIn 32 126) (λ (b : ℕ). 32 ≤ b) (λ (b : ℕ) (h : IsIn 32 126 b). h.0) line plain.bytes
 
 -- bytes from blank to `~` pass the test
-bytes-pass : (line : List ℕ) → AllByRecursion (IsIn 32 126) line → list_all is_text_byte line ≡ true
+bytes-pass : (line : List ℕ) → AllByRecursion (IsIn 32 126) line → list_all is_printable line ≡ true
 bytes-pass [] all = refl
 bytes-pass (b ∷ bs) all = both_true (both_true (le-leb 32 b all.0.0) (le-leb b 126 all.0.1)) (bytes-pass bs all.1)
 

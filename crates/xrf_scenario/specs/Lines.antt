@@ -4,7 +4,7 @@ use Rattle.std.specs.List.{list_all}
 use Rattle.xrf_forms.specs.declared.reason.Reason.{Reason}
 use Rattle.xrf_forms.specs.declared.reason.Reason.TheVariants.{BadByte, LongLine}
 use Rattle.xrf_text.specs.Text.{lines, words}
-use Rattle.xrf_setup.specs.Commands.{is_text_byte}
+use Rattle.xrf_text.specs.Text.{is_printable}
 use Rattle.xrf_setup.specs.declared.ranges.TheConstants.{LINE_MOST}
 
 -- A carriage return (byte 13) before a line feed (byte 10) is dropped.
@@ -41,4 +41,4 @@ is_report line = begins_with 42 line
 
 -- what is wrong with the bytes of a line
 abbrev pub bytes_fault : List ℕ → Option Reason
-bytes_fault line = if not (list_all is_text_byte line) then Some BadByte else if nat_lt LINE_MOST (length line) then Some LongLine else None
+bytes_fault line = if not (list_all is_printable line) then Some BadByte else if nat_lt LINE_MOST (length line) then Some LongLine else None

@@ -18,7 +18,7 @@ use Rattle.xrf_forms.specs.declared.reason.Reason.{Reason}
 use Rattle.xrf_forms.specs.declared.reason.Reason.TheVariants.{BadByte, LongLine, NoHeader, BadFormat, AfterEnd, PlanOrder, Twice, TooMany, RrnRange, NotBuilt}
 use Rattle.xrf_scenario.specs.Built.{allows, allows_format}
 use Rattle.xrf_scenario.specs.Lines.{is_report}
-use Rattle.xrf_setup.specs.Commands.{is_text_byte}
+use Rattle.xrf_text.specs.Text.{is_printable}
 use Rattle.xrf_scenario.specs.SoFar.{SoFar, is_whole}
 use Rattle.xrf_scenario.specs.Taking.{are_within, has_choice_room, has_clt_room, has_plan_room, has_work_room, is_early, is_free}
 use Rattle.xrf_scenario.specs.declared.built.Forms.{Forms}
@@ -96,7 +96,7 @@ pub record HeaderNotBuilt (forms : Forms) (so : SoFar) (text : List ℕ) : Type 
 
 -- Where a reason of a text holds of a line: of its bytes, its place, and what was said before.
 abbrev pub HoldsOfText : Forms → SoFar → List ℕ → Reason → Type 0
-HoldsOfText forms so text BadByte = (is_whole so.part ≡ false) × (list_all is_text_byte text ≡ false)
+HoldsOfText forms so text BadByte = (is_whole so.part ≡ false) × (list_all is_printable text ≡ false)
 HoldsOfText forms so text LongLine = (is_whole so.part ≡ false) × (LINE_MOST < length text)
 HoldsOfText forms so text NoHeader = (so.part ≡ Start) × (first (words text) ≢ codes "XRF")
 HoldsOfText forms so text BadFormat = (so.part ≡ Start) × ((format : Format) → words text ≢ header_words format)

@@ -4,7 +4,7 @@ ghost use Rattle.std.specs.Prelude.{◌≡◌, ◌+◌, ◌<◌, ◌≤◌, ◌�
 ghost use Rattle.std.specs.List.{position, list_all};
 ghost use Rattle.xrf_text.specs.Text.{is_line_feed, words};
 ghost use Rattle.xrf_scenario.specs.Lines.{text_lines, without_return, begins_with, are_none, is_skipped, is_report, bytes_fault};
-ghost use Rattle.xrf_setup.specs.Commands.{is_text_byte};
+ghost use Rattle.xrf_text.specs.Text.{is_printable};
 
 use xrf_forms::Reason;
 use xrf_setup::ranges::LINE_MOST;
@@ -80,7 +80,7 @@ pub fn is_report(line: &[u8]) -> bool
 }
 
 fn is_text(line: &[u8]) -> bool
-    ensures { result ≡ list_all is_text_byte line.now }
+    ensures { result ≡ list_all is_printable line.now }
 {
     line.iter().all(|b| matches!(*b, b' '..=b'~'))
 }

@@ -1,6 +1,7 @@
 -- The lines of a text, and the words of a line.
-use Rattle.std.specs.Prelude.{ℕ, Bool, true, false, ◌==◌, ◌≢◌, List, [], ◌∷◌, filter}
+use Rattle.std.specs.Prelude.{ℕ, Bool, true, false, ◌==◌, ◌&&◌, nat_le, ◌≢◌, List, [], ◌∷◌, filter}
 use Rattle.std.specs.List.{slice_split, AllByRecursion}
+use Rattle.std.specs.Borrow.{Bor}
 
 -- a line feed and a blank
 abbrev pub is_line_feed : ℕ → Bool
@@ -8,6 +9,10 @@ is_line_feed b = b == 10
 
 abbrev pub is_blank : ℕ → Bool
 is_blank b = b == 32
+
+-- a byte from blank to `~`
+abbrev pub is_printable : ℕ → Bool
+is_printable b = nat_le 32 b && nat_le b 126
 
 -- what stands behind the last line feed, which is no line where it is empty
 abbrev pub last_line : List ℕ → List (List ℕ)
@@ -36,3 +41,8 @@ words line = filter is_filled (slice_split is_blank line)
 pub record IsWord (word : List ℕ) : Type 0 where
   pub some : word ≢ []
   pub no_blank : AllByRecursion (λ b. b ≢ 32) word
+
+-- the texts that some references lend
+abbrev pub texts : List (Bor (List ℕ)) → List (List ℕ)
+texts [] = []
+texts (text ∷ more) = text.now ∷ texts more

@@ -1,22 +1,16 @@
 //! The lines of a text, and the words of a line.
 #![tactic(auto)]
 
+mod line_words;
+mod scan;
+
 ghost use Rattle.std.specs.Prelude.{◌≡◌, ◌≤◌, ◌<◌, [], ◌∷◌, ◌≢◌, ℕ, List, length, MatchOption, IfSome};
 ghost use Rattle.std.specs.List.{position, join_with_byte, AllByRecursion};
 ghost use Rattle.xrf_text.specs.Text.{is_blank, is_line_feed, lines, words, IsWord};
 
-/// The line from its first word on.
-fn from_first_word(line: &[u8]) -> &[u8]
-    ensures same { words result.now ≡ words line.now }
-    ensures shorter { length result.now ≤ length line.now }
-    ensures at_word { (rest : List ℕ) → result.now ≢ 32 ∷ rest }
-{
-    let mut rest = line;
-    while let [b' ', more @ ..] = rest {
-        rest = more;
-    }
-    rest
-}
+pub use line_words::LineWords;
+use scan::from_first_word;
+pub use scan::{first_line_feed, is_printable};
 
 /// Where the first blank stands.
 fn first_blank(line: &[u8]) -> Option<usize>
@@ -36,13 +30,6 @@ pub fn split_word(line: &[u8]) -> Option<(&[u8], &[u8])>
     }
     let end = first_blank(rest).unwrap_or(rest.len());
     Some(rest.split_at(end))
-}
-
-/// Where the first line feed stands.
-fn first_line_feed(text: &[u8]) -> Option<usize>
-    ensures { result ≡ position is_line_feed text.now }
-{
-    text.iter().position(|b| *b == b'\n')
 }
 
 /// The first line of a text without its line feed and what follows it, or none for the empty text.

@@ -1,0 +1,116 @@
+//! Searches that pass over 32 bytes at once.
+
+ghost use Rattle.std.specs.Prelude.{◌≡◌, ◌≤◌, ◌≢◌, ◌+◌, ◌∷◌, ℕ, List, true, not, nat_lt, IsTrue, length, take, drop};
+ghost use Rattle.std.specs.List.{list_all, position};
+ghost use Rattle.xrf_text.specs.Text.{words, is_blank, is_line_feed, is_printable};
+
+use std::simd::prelude::*;
+
+/// How many bytes a block has.
+const BLOCK: usize = 32;
+
+/// Whether no byte of a block is a line feed.
+fn has_no_line_feed(block: u8x32) -> bool
+    ensures { IsTrue result → list_all (λ b. not (is_line_feed b)) block ≡ true }
+{
+    block.simd_eq(u8x32::splat(b'\n')).to_bitmask() == 0
+}
+
+/// Whether all bytes of a block are blanks.
+fn is_all_blank(block: u8x32) -> bool
+    ensures { IsTrue result → list_all is_blank block ≡ true }
+{
+    block.simd_ne(u8x32::splat(b' ')).to_bitmask() == 0
+}
+
+/// Whether no byte of a block stands before the blank.
+fn has_none_below(block: u8x32) -> bool
+    ensures { IsTrue result → list_all (λ b. not (nat_lt b 32)) block ≡ true }
+{
+    block.simd_lt(u8x32::splat(b' ')).to_bitmask() == 0
+}
+
+/// Whether no byte of a block stands after `~`.
+fn has_none_above(block: u8x32) -> bool
+    ensures { IsTrue result → list_all (λ b. not (nat_lt 126 b)) block ≡ true }
+{
+    block.simd_gt(u8x32::splat(b'~')).to_bitmask() == 0
+}
+
+/// Whether all bytes of a block are printable.
+#[tactic(auto, using(crate::proofs::Blocks::both_printable))]
+fn is_all_printable(block: u8x32) -> bool
+    ensures { IsTrue result → list_all is_printable block ≡ true }
+{
+    if !has_none_below(block) {
+        return false;
+    }
+    has_none_above(block)
+}
+
+/// The 32 bytes from a place on.
+fn block_at(text: &[u8], at: usize) -> u8x32
+    requires { at + 32 ≤ length text.now }
+    ensures { result ≡ take 32 (drop at text.now) }
+{
+    u8x32::from_slice(&text[at..])
+}
+
+/// What stands behind the first 32 bytes.
+fn behind_block(text: &[u8]) -> &[u8]
+    requires { 32 ≤ length text.now }
+    ensures behind { result.now ≡ drop 32 text.now }
+    ensures shorter { length result.now + 32 ≡ length text.now }
+{
+    &text[BLOCK..]
+}
+
+/// Where the first line feed stands.
+pub fn first_line_feed(text: &[u8]) -> Option<usize>
+    ensures { result ≡ position is_line_feed text.now }
+{
+    let mut passed = 0;
+    while text.len() - passed >= BLOCK && has_no_line_feed(block_at(text, passed)) {
+        passed += BLOCK;
+    }
+    while passed < text.len() {
+        if text[passed] == b'\n' {
+            return Some(passed);
+        }
+        passed += 1;
+    }
+    None
+}
+
+/// The line from its first word on.
+pub(crate) fn from_first_word(line: &[u8]) -> &[u8]
+    ensures same { words result.now ≡ words line.now }
+    ensures shorter { length result.now ≤ length line.now }
+    ensures at_word { (rest : List ℕ) → result.now ≢ 32 ∷ rest }
+{
+    let mut rest = line;
+    while rest.len() >= BLOCK && is_all_blank(block_at(rest, 0)) {
+        rest = behind_block(rest);
+    }
+    while let [b' ', more @ ..] = rest {
+        rest = more;
+    }
+    rest
+}
+
+fn are_printable(line: &[u8]) -> bool
+    ensures { result ≡ list_all is_printable line.now }
+{
+    line.iter().all(|b| matches!(*b, b' '..=b'~'))
+}
+
+/// Whether all bytes stand from blank to `~`.
+pub fn is_printable(line: &[u8]) -> bool
+    ensures { result ≡ list_all is_printable line.now }
+{
+    let mut rest = line;
+    while rest.len() >= BLOCK && is_all_printable(block_at(rest, 0)) {
+        rest = behind_block(rest);
+    }
+    are_printable(rest)
+}

@@ -29,7 +29,9 @@ use Rattle.xrf_history.specs.Reserving.{SignOnActive, SignOnStandby, leaves, pur
 use Rattle.xrf_history.proofs.Histories.{Comes, IsHistory, induct}
 use Rattle.xrf_history.specs.Accepting.{exit_allowed}
 use Rattle.xrf_history.specs.declared.want.Want.TheVariants as want
+use Rattle.xrf_history.proofs.Tests.{or-left}
 
+-- a round goes on inside its sequence
 pub inside-is : (p : Settings) (h : List Event) (w : Want) → next p h ≡ w → is_rounds w ≡ true → inside p h ≡ Some w
 inside-is p h w is rounds = by (inside p h) (round-inside p h w is rounds) is
   where
@@ -42,9 +44,11 @@ abbrev pub any_within : ℕ → ℕ → List ℕ → Bool
 any_within adi now [] = false
 any_within adi now (t ∷ ts) = is_within adi now t || any_within adi now ts
 
+-- loss by the later of two ticks
 lost-max : (adi now t r : ℕ) → is_lost (max t r) adi now ≡ (not (is_within adi now t) && is_lost r adi now)
 lost-max adi now t r = grind (arith, common_steps)
 
+-- loss by the latest tick is none within the interval
 lost-from : (adi now start : ℕ) (ts : List ℕ) → is_lost (latest start ts) adi now ≡ (not (any_within adi now ts) && is_lost start adi now)
 lost-from adi now start [] = refl
 lost-from adi now start (t ∷ ts) =
@@ -54,13 +58,16 @@ lost-from adi now start (t ∷ ts) =
     by true b c is = refl
     by false b c is = is
 
+-- a tick that is not within the interval tells loss from the first on
 within-zero : (adi now t : ℕ) → is_within adi now t ≡ false → is_lost 0 adi now ≡ true
 within-zero adi now t is = grind (arith, common_steps)
 
+-- some tick is there
 abbrev pub is_cons : List ℕ → Bool
 is_cons [] = false
 is_cons (t ∷ ts) = true
 
+-- loss is no tick within the interval, where some tick is there
 pub lost-news : (adi now : ℕ) (ts : List ℕ) → is_cons ts ≡ true → is_lost (latest 0 ts) adi now ≡ not (any_within adi now ts)
 lost-news adi now [] is = absurd (cc)
 lost-news adi now (t ∷ ts) is = lost-from adi now 0 (t ∷ ts) ∙ by (is_within adi now t) (any_within adi now ts) refl
@@ -90,28 +97,34 @@ abbrev is_catch_up : Decided → Bool
 is_catch_up (Owner (acting.CatchUp n)) = true
 is_catch_up _ = false
 
+-- EXIT KEEP
 abbrev is_keep : ExitAnswer → Bool
 is_keep exit.Keep = true
 is_keep _ = false
 
+-- a history was told CATCHUP or EXIT KEEP, which count in an owner alone
 abbrev pub has_reset : List Event → Bool
 has_reset [] = false
 has_reset (DecisionMade known at decision ∷ h) = is_catch_up decision || has_reset h
 has_reset (Exited answer at ∷ h) = is_keep answer || has_reset h
 has_reset (_ ∷ h) = has_reset h
 
+-- nothing is noticed, and nothing that counts in an owner alone was told
 record Quiet (told : Option Notice) (reset : Bool) : Type 0 where
   pub none : told ≡ None
   pub plain : reset ≡ false
 
+-- so it is of a job that is no owner
 abbrev IsQuiet : Settings → List Event → Type 0
 IsQuiet p h = is_owner h ≡ false → Quiet (notice h) (has_reset h)
 
+-- who is no owner decides no CATCHUP and notices nothing
 cause-quiet : (p : Settings) (h : List Event) (known : Known) (n : ℕ) (decision : Decided) (told : Option Notice) → decision ≡ cause p h known n
     → is_owner h ≡ false
     → (notice_in decision told ≡ told) × (is_catch_up decision ≡ false)
 cause-quiet p h known n decision told made no_owner = grind (arith, common_steps)
 
+-- a RESERVE to drop is an owner's
 drop-now : (h : List Event) → is_drop (purpose_now h) ≡ true → is_owner h ≡ true
 drop-now h is = by (sign_off_due h) (is_granted h) (is_owner h) (starts_active h) (leaves h) (start_due h) is
   where
@@ -125,18 +138,18 @@ drop-now h is = by (sign_off_due h) (is_granted h) (is_owner h) (starts_active h
     by o true false a None (Some c) is = absurd (cc)
     by o true false a None None is = absurd (cc)
 
-or-left : (a b : Bool) → a ≡ true → (a || b) ≡ true
-or-left a b is = grind (arith, common_steps)
-
+-- what is not one of two is not the first
 pub or-none : (a b : Bool) → (a || b) ≡ false → a ≡ false
 or-none a b is = grind (arith, common_steps)
 
+-- who has a purpose to drop is an owner
 drop-owner : (h : List Event) → is_drop (purpose h) ≡ true → is_owner h ≡ true
 drop-owner [] is = absurd (cc)
 drop-owner (Reserved ∷ h) is = drop-now h is
 drop-owner (ControlWritten w ∷ h) is = or-left (is_owner h) (names_owner w (number (ControlWritten w ∷ h))) (drop-owner h is)
 drop-owner (_ ∷ h) is = drop-owner h is
 
+-- who is no owner read no taking for a drop
 no-taking : (h : List Event) → is_owner h ≡ false → drop_read_taking h ≡ false
 no-taking h no_owner = by (is_drop (purpose h)) refl
   where
@@ -144,6 +157,7 @@ no-taking h no_owner = by (is_drop (purpose h)) refl
     by false drop = refl
     by true drop = absurd (cc (sym no_owner ∙ drop-owner h drop))
 
+-- each event keeps it
 quiet-step : (p : Settings) (h : List Event) (e : Event) → IsHistory p h → Comes p h e → IsQuiet p h → IsQuiet p (e ∷ h)
 quiet-step p h StartedActive is comes quiet = absurd comes
 quiet-step p h StartedStandby is comes quiet = absurd comes
@@ -157,6 +171,7 @@ quiet-step p h Released is comes quiet = λ no_owner.
     record { none = ap (λ (b : Bool). if b then Some TakeoverSeen else notice h) (no-taking h no_owner) ∙ (quiet no_owner).none; plain = (quiet no_owner).plain }
 quiet-step p h _ is comes quiet = quiet
 
+-- a job that is no owner was told nothing that counts in an owner alone
 pub quiet : (p : Settings) (h : List Event) → IsHistory p h → is_owner h ≡ false → has_reset h ≡ false
 quiet p h is no_owner =
     (induct IsQuiet (λ p. λ no_owner. record { none = refl; plain = refl }) (λ p. λ no_owner. record { none = refl; plain = refl }) quiet-step p h is no_owner).plain
@@ -165,12 +180,15 @@ quiet p h is no_owner =
 both-none : (a b : Bool) → (a || b) ≡ false → (a ≡ false) × (b ≡ false)
 both-none a b is = grind (arith, common_steps)
 
+-- a command is no look
 of-command : (command : Cebt) (at : ℕ) (ts : List Told) → last_look (told_of_command command at ts) ≡ last_look ts
 of-command command at ts = grind (arith, common_steps)
 
+-- a decision is no look
 of-decision : (decision : Decided) (at : ℕ) (ts : List Told) → last_look (told_of_decision decision at ts) ≡ last_look ts
 of-decision decision at ts = grind (arith, common_steps)
 
+-- the last look that was told is the look before
 look-is : (h : List Event) → last_look (told_to_watch h) ≡ look_before h
 look-is [] = refl
 look-is (Looked2 signal at ∷ h) = refl
@@ -183,37 +201,40 @@ look-is (Exited exit.Drop at ∷ h) = look-is h
 look-is (Exited exit.Abend at ∷ h) = look-is h
 look-is (_ ∷ h) = look-is h
 
+-- a conjunction with what is not met
 and-false : (a : Bool) → (a && false) ≡ false
 and-false true = refl
 and-false false = refl
 
+-- a conjunction with what is met
 and-true : (a : Bool) → (a && true) ≡ a
 and-true true = refl
 and-true false = refl
 
+-- a decision that is no CATCHUP tells nothing
 plain-decision : (decision : Decided) (at : ℕ) (ts : List Told) → is_catch_up decision ≡ false → told_of_decision decision at ts ≡ ts
 plain-decision decision at ts plain = grind (arith, common_steps)
 
+-- an EXIT but KEEP tells nothing
 plain-exit : (answer : ExitAnswer) (at : ℕ) (ts : List Told) → is_keep answer ≡ false → told_of_exit answer at ts ≡ ts
 plain-exit answer at ts plain = grind (arith, common_steps)
 
-news-of : (look : Look) (o : Option Look) → is_news look o ≡ is_news look o
-news-of look None = refl
-news-of look (Some before) = refl
-
+-- a tick that is added by a test
 add-if : (adi now at : ℕ) (ts : List ℕ) (b : Bool) → any_within adi now (if b then at ∷ ts else ts) ≡ ((is_within adi now at && b) || any_within adi now ts)
 add-if adi now at ts b = grind (arith, common_steps)
 
+-- a command tells news where it turns surveillance on
 command-news : (adi now at : ℕ) (ts : List Told) (command : Cebt)
     → any_within adi now (changes (told_of_command command at ts)) ≡ ((is_within adi now at && turns_on command) || any_within adi now (changes ts))
 command-news adi now at ts command = grind (arith, common_steps)
 
+-- news is a change that was told within the interval
 pub news-told : (adi now : ℕ) (h : List Event) → has_reset h ≡ false → has_news adi now h ≡ any_within adi now (changes (told_to_watch h))
 news-told adi now [] plain = refl
 news-told adi now (Looked2 signal at ∷ h) plain =
     ap (λ (b : Bool). (is_within adi now at && is_news (signal_seen h, signal) (look_before h)) || b) (news-told adi now h plain)
     ∙ ap (λ (b : Bool). (is_within adi now at && b) || any_within adi now (changes (told_to_watch h)))
-    (sym (news-of (signal_seen h, signal) (look_before h)) ∙ ap (is_news (signal_seen h, signal)) (sym (look-is h)))
+    (ap (is_news (signal_seen h, signal)) (sym (look-is h)))
     ∙ sym (add-if adi now at (changes (told_to_watch h)) (is_news (signal_seen h, signal) (last_look (told_to_watch h))))
 news-told adi now (Replied true at ∷ h) plain = ap (λ (b : Bool). b || has_news adi now h) (and-false (is_within adi now at)) ∙ news-told adi now h plain
 news-told adi now (Replied false at ∷ h) plain =
@@ -233,12 +254,15 @@ abbrev is_decide_of : Option Want → Bool
 is_decide_of (Some want.Decide) = true
 is_decide_of _ = false
 
+-- a DECIDE goes on with a round
 decide-rounds : (o : Option Want) → is_decide_of o ≡ true → is_rounds_of o ≡ true
 decide-rounds o is = grind (arith, common_steps)
 
+-- where DECIDE comes next a look was made
 abbrev Looks : Settings → List Event → Type 0
 Looks p h = is_decide_of (inside p h) ≡ true → is_some (look_before h) ≡ true
 
+-- each event keeps it
 looks-step : (p : Settings) (h : List Event) (e : Event) → IsHistory p h → Comes p h e → Looks p h → Looks p (e ∷ h)
 looks-step p h Ticked is comes looks = looks
 looks-step p h Abended is comes looks = looks
@@ -253,11 +277,12 @@ looks-step p h StartedActive is comes looks = absurd comes
 looks-step p h StartedStandby is comes looks = absurd comes
 looks-step p h e is comes looks = λ here. absurd (rounds-after p h e refl (decide-rounds (inside p (e ∷ h)) here))
 
+-- a DECIDE comes after a look
 decides-look : (p : Settings) (h : List Event) → IsHistory p h → next p h ≡ want.Decide → is_some (look_before h) ≡ true
 decides-look p h is comes =
     induct Looks (λ p. λ here. absurd (cc)) (λ p. λ here. absurd (cc)) looks-step p h is (ap is_decide_of (inside-is p h want.Decide comes refl))
 
--- at a DECIDE of a job that is no owner
+-- at a DECIDE of a job that is no owner, loss of signal is no news within the interval
 pub lost-is : (p : Settings) (h : List Event) (now : ℕ) → IsHistory p h → next p h ≡ want.Decide → is_owner h ≡ false
     → is_lost (change h) p.adi now ≡ not (has_news p.adi now h)
 lost-is p h now is comes no_owner =

@@ -37,7 +37,7 @@ due-stays h (ActFailed tried at) is = or_else-some (sign_off_due h) (if fails_ow
 due-stays h _ is = is
 
 -- who reserves to sign off has a sign-off due
-due-now : (h : List Event) → is_sign_off (purpose_now h) ≡ true → is_some (sign_off_due h) ≡ true
+pub due-now : (h : List Event) → is_sign_off (purpose_now h) ≡ true → is_some (sign_off_due h) ≡ true
 due-now h is = grind (arith, common_steps)
 
 -- who has reserved to sign off has a sign-off due

@@ -23,6 +23,7 @@ use Rattle.xrf_history.specs.declared.want.Want.TheVariants as want
 abbrev pub to_write : Settings → List Event → Option ControlRecord
 to_write p h = record_by_purpose p (purpose h) (number h) 0 (record_read h) (known_read h)
 
+-- and how it ends
 abbrev pub to_end : Settings → List Event → Option EndWhy
 to_end p h = end_by_purpose p (purpose h) (number h) (record_read h) (known_read h)
 
@@ -31,6 +32,7 @@ abbrev pub acts_to_release : Option ControlRecord → ℕ
 acts_to_release None = 1
 acts_to_release (Some written) = 2
 
+-- how many acts were made since the CTLREAD, by the phase
 abbrev pub Stage : Option ControlRecord → Option EndWhy → (made : ℕ) → Option Want → Phase → Type 0
 Stage writes ends made act Fresh = ⊥
 Stage writes ends made act Held = ⊥
@@ -39,14 +41,17 @@ Stage writes ends made act HasWritten = (made ≡ 1) × (is_some writes ≡ true
 Stage writes ends made act Over = (made ≡ acts_to_release writes) × (act ≡ end_next ends)
 Stage writes ends made act Outside = (acts_to_release writes ≤ made) × (end_next ends ≡ None)
 
+-- so it is of a job that has read, but for a drop
 abbrev pub HasStage : Settings → List Event → Type 0
 HasStage p h = (not (is_drop (purpose h)) && has_read h) ≡ true → Stage (to_write p h) (to_end p h) (made_since_read h) (inside p h) (phase p h)
 
+-- work outside the reserve keeps it
 stage-work : (writes : Option ControlRecord) (ends : Option EndWhy) (made : ℕ) (act act' : Option Want) (f : Phase) → f ≡ Outside → Stage writes ends made act f
     → Stage writes ends (made + 1) act' f
 stage-work writes ends made act act' Outside is at = (omega (arith, at.0), at.1)
 stage-work writes ends made act act' _ is at = absurd (cc)
 
+-- so does an act of work
 worked : (p : Settings) (h : List Event) (w : Want) (act act' : Option Want) → IsHistory p h → next p h ≡ w → is_work w ≡ true
     → Stage (to_write p h) (to_end p h) (made_since_read h) act (phase p h) → Stage (to_write p h) (to_end p h) (made_since_read h + 1) act' (phase p h)
 worked p h w act act' is comes work at =
@@ -58,15 +63,18 @@ same-number : (p : Settings) (q : Purpose) (granted owner : Bool) (n last : ℕ)
     → (record_by_purpose p q (if granted then n else last) 0 c known ≡ record_by_purpose p q n 0 c known) × (end_by_purpose p q (if granted then n else last) c known ≡ end_by_purpose p q n c known)
 same-number p q granted owner n last c known suits is_granted = grind (arith, common_steps)
 
+-- but for a drop the epoch does not count
 pub same-epoch : (p : Settings) (q : Purpose) (n epoch : ℕ) (c : ControlRecord) (known : Known) → is_drop q ≡ false
     → record_by_purpose p q n epoch c known ≡ record_by_purpose p q n 0 c known
 same-epoch p q n epoch c known no_drop = grind (arith, common_steps)
 
+-- after a RELEASE, by whether ENDED follows
 release-by : (writes : Option ControlRecord) (ends : Option EndWhy) (made : ℕ) (o : Option Want) → end_next ends ≡ o → made ≡ acts_to_release writes
     → Stage writes ends made o (released o)
 release-by writes ends made None is count = (omega (arith, count), is)
 release-by writes ends made (Some w) is count = (count, sym is)
 
+-- how many acts were made up to the RELEASE
 release-count : (writes : Option ControlRecord) (ends : Option EndWhy) (made : ℕ) (act : Option Want) (f : Phase) → Stage writes ends made act f
     → may_release f ≡ true
     → (f ≡ HasRead → writes ≡ None) → made + 1 ≡ acts_to_release writes
@@ -76,6 +84,7 @@ release-count None ends made act HasWritten at may none = absurd (cc (at.1))
 release-count (Some w) ends made act HasWritten at may none = omega (arith, at.0)
 release-count writes ends made act _ at may none = absurd (cc)
 
+-- a RELEASE right after the CTLREAD writes nothing
 pub read-none : (p : Settings) (h : List Event) → IsHistory p h → next p h ≡ want.Release → is_drop (purpose h) ≡ false → phase p h ≡ HasRead
     → to_write p h ≡ None
 read-none p h is comes no_drop at =
@@ -83,16 +92,20 @@ read-none p h is comes no_drop at =
     ∙ releases-none (record_by_purpose p (purpose h) (number h) (epoch_number h) (record_read h) (known_read h))
     (sym (next-inside p h (after_control_read p h) (subst (NextIn p h) at (phase-next p h is))) ∙ comes)
 
+-- the first of two tests
 no-drop : (drop read : Bool) → (not drop && read) ≡ true → drop ≡ false
 no-drop false read is = refl
 no-drop true read is = absurd (cc)
 
+-- both of two tests
 pub has-both : (drop read : Bool) → drop ≡ false → read ≡ true → (not drop && read) ≡ true
 has-both drop read no_drop has = grind (arith, common_steps)
 
+-- a record that is there
 has-some : (o : Option ControlRecord) (w : ControlRecord) → o ≡ Some w → is_some o ≡ true
 has-some o w is = ap (λ (q : Option ControlRecord). is_some q) is
 
+-- after the CTLWRITE
 stage-written : (p : Settings) (h : List Event) (w : ControlRecord) → IsHistory p h → next p h ≡ want.CtlWrite w → is_drop (purpose h) ≡ false
     → Stage (to_write p h) (to_end p h) (made_since_read h) (inside p h) (phase p h)
     → Stage (to_write p (ControlWritten w ∷ h)) (to_end p (ControlWritten w ∷ h)) (made_since_read h + 1) (Some want.Release) HasWritten
@@ -106,6 +119,7 @@ stage-written p h w is comes no_drop at =
           (same ∙ sym (same-epoch p (purpose h) (number h) (epoch_number h) (record_read h) (known_read h) no_drop) ∙ wrote.1),
     )
 
+-- each event keeps it
 stage-step : (p : Settings) (h : List Event) (e : Event) → IsHistory p h → Comes p h e → HasStage p h → HasStage p (e ∷ h)
 stage-step p h StartedActive is comes at = absurd comes
 stage-step p h StartedStandby is comes at = absurd comes
@@ -132,19 +146,23 @@ stage-step p h (ActFailed tried n) is comes at = λ has. worked p h tried (insid
 stage-step p h (EndedAs reason) is comes at = absurd comes
 stage-step p h e is comes at = λ has. worked p h (next p h) (inside p h) (inside p (e ∷ h)) is refl (ap is_work comes) (at has)
 
+-- the acts since the CTLREAD are counted by the phase
 pub stages : (p : Settings) (h : List Event) → IsHistory p h → HasStage p h
 stages p h is = induct HasStage (λ p. λ has. absurd (cc)) (λ p. λ has. absurd (cc)) stage-step p h is
 
+-- what comes next under the reserve
 abbrev pub WantIn : Option ControlRecord → Option EndWhy → Phase → Want → Type 0
 WantIn writes ends HasRead w = w ≡ write_next writes
 WantIn writes ends HasWritten w = w ≡ want.Release
 WantIn writes ends Over w = end_next ends ≡ Some w
 WantIn writes ends _ w = Unit {0}
 
+-- where ENDED is due it is the next act
 over-want : (p : Settings) (h : List Event) (o : Option Want) → is_end_of o ≡ true → o ≡ Some (or_boundary p h o)
 over-want p h None is = absurd (cc)
 over-want p h (Some w) is = refl
 
+-- under the reserve the next act is so
 pub want-in : (p : Settings) (h : List Event) (f : Phase) → is_drop (purpose h) ≡ false → NextIn p h f
     → Stage (to_write p h) (to_end p h) (made_since_read h) (inside p h) f → WantIn (to_write p h) (to_end p h) f (next p h)
 want-in p h HasRead no_drop at stage =
@@ -154,5 +172,6 @@ want-in p h HasWritten no_drop at stage = next-inside p h want.Release at
 want-in p h Over no_drop at stage = sym stage.1 ∙ over-want p h (inside p h) at
 want-in p h _ no_drop at stage = tt
 
+-- the ENDED that is due
 pub ends-want : (reason : EndWhy) (w : Want) → Some (want.Ended reason) ≡ Some w → w ≡ want.Ended reason
 ends-want reason w is = grind (arith, common_steps)

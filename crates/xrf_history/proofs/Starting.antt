@@ -34,6 +34,7 @@ AreRuled [] = Unit {0}
 AreRuled (ControlRead held known ∷ h) = AreRuled h × AltRule held.owner held.alt
 AreRuled (_ ∷ h) = AreRuled h
 
+-- so does the last
 pub ruled-read : (h : List Event) → AreRuled h → AltRule (record_read h).owner (record_read h).alt
 ruled-read [] ruled = tt
 ruled-read (ControlRead held known ∷ h) ruled = ruled.1
@@ -45,11 +46,13 @@ pub record Before (opened last : Option Decided) (since : Bool) (f : Phase) : Ty
   pub unread : since ≡ false
   pub outside : f ≡ Outside
 
+-- from the RESERVE on: its purpose is the start
 pub record Since (opened : Option Decided) (since read : Bool) (q : Purpose) (why : Cause) : Type 0 where
   pub none : opened ≡ None
   pub purpose : q ≡ StartTakeover why
   pub has_read : since ≡ true → read ≡ true
 
+-- a job that decided to start
 pub record Starting (granted owner : Bool) (stays : Option EndWhy) (reading : Bool) (opened last : Option Decided) (since read : Bool) (q : Purpose) (f : Phase) (why : Cause) : Type 0 where
   pub is_granted : granted ≡ true
   pub no_owner : owner ≡ false
@@ -57,11 +60,13 @@ pub record Starting (granted owner : Bool) (stays : Option EndWhy) (reading : Bo
   pub not_reading : reading ≡ false
   pub at : Before opened last since f ⊎ Since opened since read q why
 
+-- of a history, by its cause
 abbrev pub StartsAt : Settings → List Event → Cause → Type 0
 StartsAt p h why =
     Starting (is_granted h) (is_owner h) (leaves h) (reading_due h) (open_decision h) (last_decision h) (has_read_since_decision h) (has_read h)
     (purpose h) (phase p h) why
 
+-- after DECIDE START
 abbrev pub IsStarting : Settings → List Event → Type 0
 IsStarting p h = AreRuled h → (why : Cause) → start_in (last_decision h) ≡ Some why → StartsAt p h why
 
@@ -70,6 +75,7 @@ owner-starts : (p : Settings) (h : List Event) (known : Known) (n : ℕ) (decisi
     → start_in (Some decision) ≡ Some why → ⊥
 owner-starts p h known n decision why owner made is = grind (arith, common_steps)
 
+-- who decides START is no owner
 pub start-cause : (p : Settings) (h : List Event) (known : Known) (n : ℕ) (decision : Decided) (why : Cause) → decision ≡ cause p h known n
     → start_in (Some decision) ≡ Some why
     → is_owner h ≡ false
@@ -79,6 +85,7 @@ start-cause p h known n decision why made is = by (is_owner h) refl
     by false owner = refl
     by true owner = absurd (owner-starts p h known n decision why owner made is)
 
+-- a START lets nothing be read, and does not end the job
 pub start-reads : (decision : Decided) (why : Cause) → start_in (Some decision) ≡ Some why → (lets_read decision ≡ false) × (end_in decision ≡ None)
 start-reads decision why is = grind (arith, common_steps)
 
@@ -92,6 +99,7 @@ written-start : (p : Settings) (why : Cause) (me : ℕ) (c w : ControlRecord) (k
     → names_owner w me ≡ false
 written-start p why me c w known did rule = grind (arith, common_steps)
 
+-- a start keeps its writer an alternate
 start-written : (p : Settings) (h : List Event) (w : ControlRecord) (why : Cause) → IsHistory p h → next p h ≡ want.CtlWrite w → AreRuled h
     → purpose h ≡ StartTakeover why
     → is_granted h ≡ true → is_owner h ≡ false → is_owner (ControlWritten w ∷ h) ≡ false
@@ -129,6 +137,7 @@ start-reserved p h why is comes last starting = by starting.at
     }
     by (inr since) = absurd (nothing-due p h why is comes starting since.none)
 
+-- after the CTLREAD
 start-read-step : (p : Settings) (h : List Event) (held : ControlRecord) (known : Known) (why : Cause) → IsHistory p h → next p h ≡ want.CtlRead
     → StartsAt p h why
     → StartsAt p (ControlRead held known ∷ h) why
@@ -145,6 +154,7 @@ start-read-step p h held known why is comes starting = by starting.at
       at = inr (record { none = since.none; purpose = since.purpose; has_read = λ read. refl });
     }
 
+-- after the CTLWRITE
 start-write-step : (p : Settings) (h : List Event) (w : ControlRecord) (why : Cause) → IsHistory p h → next p h ≡ want.CtlWrite w → AreRuled h
     → StartsAt p h why
     → StartsAt p (ControlWritten w ∷ h) why
@@ -161,9 +171,11 @@ start-write-step p h w why is comes ruled starting = by starting.at
       at = inr (record { none = since.none; purpose = since.purpose; has_read = since.has_read });
     }
 
+-- outside the reserve no RELEASE comes
 outside-releases : (f : Phase) → f ≡ Outside → may_release f ≡ true → ⊥
 outside-releases f is may = absurd (cc (sym (ap may_release is) ∙ may))
 
+-- after the RELEASE
 start-release-step : (p : Settings) (h : List Event) (why : Cause) → IsHistory p h → next p h ≡ want.Release → StartsAt p h why → StartsAt p (Released ∷ h) why
 start-release-step p h why is comes starting = by starting.at
   where
@@ -178,6 +190,7 @@ start-release-step p h why is comes starting = by starting.at
       at = inr (record { none = since.none; purpose = since.purpose; has_read = since.has_read });
     }
 
+-- a MSGREAD keeps it
 start-message-step : (p : Settings) (h : List Event) (k : ℕ) (slot : List ℕ) (why : Cause) → StartsAt p h why → StartsAt p (MessageRead k slot ∷ h) why
 start-message-step p h k slot why starting = record {
   is_granted = starting.is_granted;
@@ -187,6 +200,7 @@ start-message-step p h k slot why starting = record {
   at = starting.at;
 }
 
+-- an act that may fail, but a MSGREAD, is an owner's
 fails-owners : (w : Want) → is_reading w ≡ false → may_fail w ≡ true → is_owner_act w ≡ true
 fails-owners w no_read may = grind (arith, common_steps)
 
@@ -196,6 +210,7 @@ no-failure : (p : Settings) (h : List Event) (tried : Want) → IsHistory p h �
 no-failure p h (want.MsgRead k) is comes may no_owner quiet = absurd (cc (sym (reads-due p h k is comes no_owner) ∙ quiet))
 no-failure p h tried is comes may no_owner quiet = absurd (cc (sym (owner_acts p h is (ap is_owner_act comes ∙ fails-owners tried refl may)) ∙ no_owner))
 
+-- each event keeps it
 start-step : (p : Settings) (h : List Event) (e : Event) → IsHistory p h → Comes p h e → IsStarting p h → IsStarting p (e ∷ h)
 start-step p h StartedActive is comes starting = absurd comes
 start-step p h StartedStandby is comes starting = absurd comes
@@ -217,5 +232,6 @@ start-step p h (ActFailed tried n) is comes starting = λ ruled why last.
     absurd (no-failure p h tried is comes.0 comes.1 (starting ruled why last).no_owner (starting ruled why last).not_reading)
 start-step p h _ is comes starting = starting
 
+-- after DECIDE START the RESERVE that follows is for that start, and no other follows
 pub starts : (p : Settings) (h : List Event) → IsHistory p h → IsStarting p h
 starts p h is = induct IsStarting (λ p. λ ruled why last. absurd (cc)) (λ p. λ ruled why last. absurd (cc)) start-step p h is

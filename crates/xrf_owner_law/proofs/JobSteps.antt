@@ -16,8 +16,7 @@ use Rattle.xrf_history.proofs.Writes.{number_after, Wrote, IsRuled, last-kept, o
 use Rattle.xrf_trace.specs.Scenario.{other}
 use Rattle.xrf_owner_law.specs.Views.{view, is_over, View}
 use Rattle.xrf_owner_law.specs.Owner.{Job, Knows, IsHeld, Stands, Beside}
-use Rattle.xrf_owner_law.proofs.OwnWrites.{stands-kept}
-use Rattle.xrf_owner_law.proofs.Writes.{beside-kept, owner-kept}
+use Rattle.xrf_owner_law.proofs.WritesKeep.{stands-kept, beside-kept, owner-kept}
 
 -- all events but those under the reserve leave the view
 abbrev pub is_quiet : Event → Bool
@@ -29,6 +28,7 @@ is_quiet (ControlWritten written) = false
 is_quiet Released = false
 is_quiet _ = true
 
+-- an event but those under the reserve leaves the view
 pub quiet-view : (p : Settings) (e : Event) (h : List Event) → is_quiet e ≡ true → view p (e ∷ h) ≡ view p h
 quiet-view p StartedActive h quiet = absurd (cc)
 quiet-view p StartedStandby h quiet = absurd (cc)
@@ -38,9 +38,11 @@ quiet-view p (ControlWritten written) h quiet = absurd (cc)
 quiet-view p Released h quiet = absurd (cc)
 quiet-view p _ h quiet = refl
 
+-- who may reserve is not over
 pub over-reserved : (q : Purpose) (f : Phase) → may_reserve f ≡ true → is_over f q ≡ false
 over-reserved q f may = grind (arith, common_steps)
 
+-- a RESERVE keeps what a job is to the record
 pub reserve-step : (c : ControlRecord) (k : ℕ → Bool) (x : Site) (v : View) (q : Purpose) → may_reserve v.phase ≡ true → Job c k x v
     → Job c k x (record v { phase = Held; purpose = q })
 reserve-step c k x v q outside job = record {
@@ -53,6 +55,7 @@ reserve-step c k x v q outside job = record {
   };
 }
 
+-- a CTLREAD
 pub read-step : (c : ControlRecord) (k : ℕ → Bool) (x : Site) (v : View) (known : Known) → v.phase ≡ Held → Knows k known c → Job c k x v
     → Job c k x (record v { phase = HasRead; read = c; known = known })
 read-step c k x v known phase knows job = record {
@@ -65,6 +68,7 @@ read-step c k x v known phase knows job = record {
   };
 }
 
+-- who is not over after its RELEASE was not before it
 pub over-released : (q : Purpose) (f : Phase) (o : Option Want) → may_release f ≡ true → (is_sign_off q ≡ true → is_some o ≡ true)
     → is_over (released o) q ≡ false
     → is_over f q ≡ false
@@ -75,9 +79,11 @@ over-released q f None may off over = by (is_sign_off q) refl
     by false is = grind (arith, common_steps)
 over-released q f (Some w) may off over = absurd (cc)
 
+-- after a RELEASE the reserve is not held
 not-reserved : (f : Phase) (o : Option Want) → has_reserve f ≡ true → released o ≡ f → ⊥
 not-reserved f o holds is = grind (arith, common_steps)
 
+-- a RELEASE
 pub release-step : (c : ControlRecord) (k : ℕ → Bool) (x : Site) (v : View) (o : Option Want) → may_release v.phase ≡ true
     → (is_sign_off v.purpose ≡ true → is_some o ≡ true) → Job c k x v → Job c k x (record v { phase = released o })
 release-step c k x v o may off job = record {
@@ -100,13 +106,16 @@ written_view v w =
       phase = HasWritten;
     }
 
+-- a number that is held stays so
 held-kept : (c w : ControlRecord) (k : ℕ → Bool) (n : ℕ) → c.last ≤ w.last → IsHeld c k n → IsHeld w k n
 held-kept c w k n rises held = record { some = held.some; given = omega (arith, held.given); open_yet = held.open_yet }
 
+-- a new number is held
 held-new : (c w : ControlRecord) (k : ℕ → Bool) (b : Bool) → k w.last ≡ b → ((n : ℕ) → k n ≡ true → n ≤ c.last) → w.last ≡ c.last + 1 → IsHeld w k w.last
 held-new c w k true is given next = absurd (omega (arith, given w.last is))
 held-new c w k false is given next = record { some = omega arith; given = omega arith; open_yet = is }
 
+-- the number of the writer is held
 held-after : (c w : ControlRecord) (k : ℕ → Bool) (granted : Bool) (n : ℕ) → c.last ≤ w.last → ((m : ℕ) → k m ≡ true → m ≤ c.last)
     → (granted ≡ false → w.last ≡ c.last + 1) → (granted ≡ true → IsHeld c k n) → IsHeld w k (number_after granted n w)
 held-after c w k true n rises given next held = held-kept c w k n rises (held refl)
@@ -118,6 +127,7 @@ pub grants-next : (p : Settings) (q : Purpose) (granted owner : Bool) (me : ℕ)
     → (owner ≡ true → granted ≡ true) → granted ≡ false → w.last ≡ c.last + 1
 grants-next p q granted owner me c w known did suits is_granted fresh = grind (arith, common_steps)
 
+-- a CTLWRITE of its own
 pub write-step : (p : Settings) (c w : ControlRecord) (k : ℕ → Bool) (v : View) → Wrote p v.purpose v.number c v.known w
     → Suits v.purpose v.granted v.owner → c.last ≤ w.last
     → IsRuled c → ((n : ℕ) → k n ≡ true → n ≤ c.last) → v.phase ≡ HasRead → Job c k p.site v → Job w k p.site (written_view v w)
@@ -163,9 +173,11 @@ confirm-knows c k known n knows = record {
     or-true true = refl
     or-true false = refl
 
+-- a confirmation of another number leaves it held
 confirm-held : (c : ControlRecord) (k : ℕ → Bool) (n m : ℕ) → (m == n) ≡ false → IsHeld c k m → IsHeld c (λ i. n == i || k i) m
 confirm-held c k n m other held = record { some = held.some; given = held.given; open_yet = grind (arith, common_steps) }
 
+-- a confirmation of another number
 pub confirm-step : (c : ControlRecord) (k : ℕ → Bool) (x : Site) (v : View) (n : ℕ) → (v.granted ≡ true → (v.number == n) ≡ false) → Job c k x v
     → Job c (λ m. n == m || k m) x v
 confirm-step c k x v n unlike job = record {

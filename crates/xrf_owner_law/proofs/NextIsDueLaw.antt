@@ -1,40 +1,38 @@
 -- What is due of a start and of a through is the next act, of every run.
-use Rattle.std.proofs.Common.{None, Option, Some, List, ap, ◌≡◌, arith, slice_get, [], ◌∷◌, subst, true, ◌∙◌, refl, sym, ◌&&◌}
+use Rattle.std.proofs.Common.{List, Some, ap, ◌≡◌, None, Option, arith, slice_get, [], refl, subst, sym, ◌&&◌, is_some, true, ◌∙◌, ◌∷◌}
 use Rattle.std.proofs.lemmas.Bool.{and_parts}
 use Rattle.xrf_base.specs.declared.site.Site.{Site}
 use Rattle.xrf_base.specs.declared.site.Site.TheVariants as site
 use Rattle.xrf_ctl.specs.declared.parts.Cause.{Cause}
+use Rattle.xrf_ctl.specs.Control.{ControlRecord}
 use Rattle.xrf_history.specs.Events.{Event}
-use Rattle.xrf_history.specs.Next.{next, after_control_read, write_next}
+use Rattle.xrf_history.specs.Next.{next, write_next, after_control_read, record_for}
 use Rattle.xrf_history.specs.Reserving.{last_decision, record_read, start_in, is_through_decision}
 use Rattle.xrf_history.specs.Progress.{made_since_decision}
 use Rattle.xrf_history.specs.Holding.{number, is_tracking, is_waiting}
 use Rattle.xrf_history.proofs.Going.{goes-on}
-use Rattle.xrf_history.proofs.Phases.{NextIn}
+use Rattle.xrf_history.proofs.Phases.{HasRead, HasWritten, Held, NextIn, Phase, has_reserve, phase}
+use Rattle.xrf_history.specs.declared.want.Want.{Want}
 use Rattle.xrf_history.proofs.PhaseLaws.{next-inside, phase-next}
 use Rattle.xrf_history.specs.declared.want.Want.TheVariants as want
-use Rattle.xrf_trace.specs.declared.entry.Act.{Act}
 use Rattle.xrf_trace.specs.declared.entry.Entry.{Entry}
 use Rattle.xrf_trace.specs.Scenario.{Scen, settings}
 use Rattle.xrf_trace.specs.Acts.{act_by, act_of, next_act}
 use Rattle.xrf_trace.specs.Jobs.{hist}
+use Rattle.xrf_trace.specs.NextIsDue.{IsNext, sequence_of_start, StartIsDue, ThroughIsDue, HolderGoesOn, NextIsDue}
 use Rattle.xrf_trace.specs.Runs.{IsRun}
 use Rattle.xrf_trace.specs.Each.{OfJob, EverySite}
-use Rattle.xrf_trace.proofs.Paths.{history-at}
 use Rattle.xrf_trace.proofs.AtSites.{of-job, where-so, each-of}
-use Rattle.xrf_owner_law.proofs.DueLaws.{past-due}
-use Rattle.xrf_owner_law.proofs.StartTraceLaws.{start-is-due}
-use Rattle.xrf_owner_law.proofs.ThroughLaws.{lets-at, go-due}
-use Rattle.std.proofs.Common.{is_some}
-use Rattle.xrf_ctl.specs.Control.{ControlRecord}
-use Rattle.xrf_history.specs.declared.want.Want.{Want}
-use Rattle.xrf_history.specs.Next.{record_for}
-use Rattle.xrf_history.proofs.Phases.{Phase, Held, HasRead, HasWritten, phase, has_reserve}
-use Rattle.xrf_trace.specs.Words.{holds_reserve}
+use Rattle.xrf_trace.proofs.Paths.{history-at}
 use Rattle.xrf_trace.specs.ThroughByProof.{through_sequence}
-use Rattle.xrf_trace.specs.NextIsDue.{IsNext, sequence_of_start, StartIsDue, ThroughIsDue, HolderGoesOn, NextIsDue}
-use Rattle.xrf_owner_law.proofs.DropLaws.{reserve-at}
+use Rattle.xrf_trace.specs.declared.entry.Act.{Act}
+use Rattle.xrf_trace.specs.Words.{holds_reserve}
+use Rattle.xrf_owner_law.proofs.DueActs.{past-due}
+use Rattle.xrf_owner_law.proofs.StartLaw.{start-is-due}
+use Rattle.xrf_owner_law.proofs.ThroughActs.{go-due, lets-at}
+use Rattle.xrf_owner_law.proofs.Invariant.{reserve-at}
 
+-- the next act of a site is that of its job
 act-at : (s : Scen) (t : List Entry) (x : Site) (h : List Event) → hist s t x ≡ Some h → next_act s t x ≡ act_of s t x h (next (settings s x) h)
 act-at s t x h here = ap (act_by s t x) here
 
@@ -44,6 +42,7 @@ start-now : (s : Scen) (t : List Entry) (x : Site) (h : List Event) (o : Option 
 start-now s t x h None is here last = past-due [] (made_since_decision h) (act_of s t x h (next (settings s x) h)) (omega arith)
 start-now s t x h (Some why) is here last = start-is-due s t x h why is here last
 
+-- what is due of a start is the next act
 starts-at : (s : Scen) (t : List Entry) (x : Site) → IsRun s t → OfJob (hist s t x) (StartIsDue s t x)
 starts-at s t x is = of-job (hist s t x) (StartIsDue s t x) (λ h here.
     let acts = sequence_of_start (record_read h) (number h) (start_in (last_decision h)) in
@@ -58,13 +57,15 @@ throughs-at s t x is = of-job (hist s t x) (ThroughIsDue s t x) (λ h here.
     let p = settings s x in
     let through = (and_parts (is_waiting h) (is_through_decision (last_decision h)) goes).1 in
     let path = history-at s t x h is here in
-    subst (IsNext (slice_get acts (made_since_decision h))) (sym (act-at s t x h here)) (go-due s t x h path through (goes-on p h path (lets-at s t x h is here) through))))
+    subst (IsNext (slice_get acts (made_since_decision h))) (sym (act-at s t x h here))
+    (go-due s t x h path through (goes-on p h path (lets-at s t x h is here) through))))
 
 -- the holder of the reserve
 holds-some : (o : Option ControlRecord) (s : Scen) (t : List Entry) (x : Site) (h : List Event) → is_some (act_of s t x h (write_next o)) ≡ true
 holds-some None s t x h = refl
 holds-some (Some w) s t x h = refl
 
+-- who holds the reserve has a next act
 holder-next : (s : Scen) (t : List Entry) (x : Site) (h : List Event) (f : Phase) → NextIn (settings s x) h f → has_reserve f ≡ true
     → is_some (act_of s t x h (next (settings s x) h)) ≡ true
 holder-next s t x h Held at holds = ap (λ (w : Want). is_some (act_of s t x h w)) (next-inside (settings s x) h want.CtlRead at)
@@ -74,6 +75,7 @@ holder-next s t x h HasRead at holds =
 holder-next s t x h HasWritten at holds = ap (λ (w : Want). is_some (act_of s t x h w)) (next-inside (settings s x) h want.Release at)
 holder-next s t x h _ at holds = absurd (cc)
 
+-- the holder of the reserve has a next act
 holders-at : (s : Scen) (t : List Entry) (x : Site) → IsRun s t → OfJob (hist s t x) (λ h. HolderGoesOn s t x)
 holders-at s t x is = of-job (hist s t x) (λ h. HolderGoesOn s t x) (λ h here.
     where-so (holds_reserve t x) (is_some (next_act s t x) ≡ true) (λ holds.

@@ -1,48 +1,49 @@
 -- Own hand: nobody changes an owner's state but the owner itself, and a place in the record goes by its own hand, by
 -- the drop, or once it is confirmed that its job ended.
-use Rattle.std.proofs.Common.{◌≡◌, ℕ, ◌==◌, Bool, true, false, ◌||◌, is_some, ◌⊎◌, inl, inr, List, ◌∷◌, Some, refl, sym, ◌∙◌, ap, subst, arith}
+use Rattle.std.proofs.Common.{arith, true, ◌≡◌, ℕ, false, ◌⊎◌, inl, inr, subst, List, ap, sym, ◌∙◌, refl, ◌∷◌, Bool, is_some, ◌==◌, ◌||◌, Some}
 use Rattle.std.proofs.lemmas.Grind.{common_steps}
 use Rattle.xrf_base.specs.declared.site.Site.{Site}
-use Rattle.xrf_ctl.specs.declared.parts.OwnerState.{OwnerState}
 use Rattle.xrf_ctl.specs.Control.{ControlRecord, KeepsRule}
+use Rattle.xrf_ctl.specs.declared.parts.OwnerState.{OwnerState}
 use Rattle.xrf_cavm.specs.declared.known.Known.{Known}
-use Rattle.xrf_cavm.specs.Record.{inc_of_alt}
 use Rattle.xrf_cavm.specs.Writes.{with_state}
+use Rattle.xrf_cavm.specs.Record.{inc_of_alt}
+use Rattle.xrf_history.proofs.Writes.{IsRuled, Wrote, of_alternate}
 use Rattle.xrf_history.specs.declared.settings.Settings.{Settings}
+use Rattle.xrf_history.specs.Reserving.{SignOnActive, GoThrough, Purpose, SignOff, known_read, purpose, SignOnStandby, DropAlternate, Leave, StartTakeover}
+use Rattle.xrf_history.proofs.Purposes.{is_sign_off, Suits}
 use Rattle.xrf_history.specs.Events.{Event}
-use Rattle.xrf_history.specs.Holding.{number, is_granted, is_owner}
-use Rattle.xrf_history.specs.Reserving.{Purpose, SignOnActive, SignOnStandby, SignOff, DropAlternate, Leave, StartTakeover, GoThrough, purpose, known_read}
-use Rattle.xrf_history.specs.Notices.{is_drop}
 use Rattle.xrf_history.proofs.Phases.{Phase}
+use Rattle.xrf_history.specs.Holding.{is_granted, is_owner, number}
 use Rattle.xrf_history.proofs.Holding.{owner-granted}
-use Rattle.xrf_history.proofs.Purposes.{Suits, is_sign_off}
-use Rattle.xrf_history.proofs.Writes.{Wrote, IsRuled, of_alternate}
+use Rattle.xrf_history.specs.Notices.{is_drop}
+use Rattle.xrf_history.proofs.Tests.{or-right, or-left}
+use Rattle.xrf_trace.specs.OwnHand.{changes_state, state_of, IsByOwner, ChangesNoMore, alternate_goes, inc_of_taking, taking_goes, is_own_or_ended, AlternateLets, TakingLets, OwnHand}
 use Rattle.xrf_trace.specs.declared.entry.Entry.{Entry}
-use Rattle.xrf_trace.specs.declared.entry.Act.{Act}
-use Rattle.xrf_trace.specs.declared.entry.Act.TheVariants as act
-use Rattle.xrf_trace.specs.Scenario.{Scen, settings}
-use Rattle.xrf_trace.specs.Words.{who_at, confirmed}
-use Rattle.xrf_trace.specs.Landing.{lands}
 use Rattle.xrf_trace.specs.Devices.{control}
-use Rattle.xrf_trace.specs.Jobs.{hist}
-use Rattle.xrf_trace.specs.Runs.{IsRun}
-use Rattle.xrf_trace.specs.Each.{Where, AtSite}
 use Rattle.xrf_trace.specs.OneUpdater.{running_owner}
-use Rattle.xrf_trace.specs.OwnHand.{state_of, changes_state, IsByOwner, ChangesNoMore, inc_of_taking, alternate_goes, taking_goes, is_own_or_ended, AlternateLets, TakingLets, OwnHand}
+use Rattle.xrf_trace.specs.Scenario.{Scen, settings}
 use Rattle.xrf_trace.proofs.Sites.{running-at}
-use Rattle.xrf_trace.proofs.AtSites.{where-so, where-at, each-of}
+use Rattle.xrf_trace.specs.Words.{who_at, confirmed}
+use Rattle.xrf_trace.specs.Runs.{IsRun}
+use Rattle.xrf_trace.specs.declared.entry.Act.{Act}
+use Rattle.xrf_trace.proofs.AtSites.{where-so, each-of, where-at}
+use Rattle.xrf_trace.specs.Jobs.{hist}
+use Rattle.xrf_trace.specs.Each.{Where, AtSite}
+use Rattle.xrf_trace.specs.Landing.{lands}
+use Rattle.xrf_trace.specs.declared.entry.Act.TheVariants as act
 use Rattle.xrf_owner_law.specs.Owner.{IsOwner, Knows}
+use Rattle.xrf_owner_law.proofs.WritesOfRuns.{WritesAt, inc-at, writes-at, writes-now}
 use Rattle.xrf_owner_law.specs.Views.{is_over}
 use Rattle.xrf_owner_law.proofs.StateSteps.{suits-alternate}
-use Rattle.xrf_owner_law.proofs.WriteLaws.{WritesAt, writes-at, inc-at}
-use Rattle.xrf_owner_law.proofs.OneUpdater.{writes-now}
-use Rattle.xrf_owner_law.proofs.RuleLaws.{kept}
+use Rattle.xrf_owner_law.proofs.RuleLaw.{kept}
 
 -- a sign-on as active, and a through, make another owner
 active-other : (p : Settings) (me : ℕ) (c w : ControlRecord) (known : Known) → Wrote p SignOnActive me c known w → IsRuled c
     → changes_state c.owner w.owner ≡ true → ⊥
 active-other p me c w known did rule changes = grind (arith, common_steps)
 
+-- a through makes another owner
 through-other : (p : Settings) (me : ℕ) (c w : ControlRecord) (known : Known) → Wrote p GoThrough me c known w → IsRuled c
     → changes_state c.owner w.owner ≡ true → ⊥
 through-other p me c w known did rule changes = grind (arith, common_steps)
@@ -52,6 +53,7 @@ owner-stays : (p : Settings) (q : Purpose) (me : ℕ) (c w : ControlRecord) (kno
     → (w.owner ≡ c.owner) ⊎ ((q ≡ SignOnActive) ⊎ (q ≡ GoThrough))
 owner-stays p q me c w known did other = grind (arith, common_steps)
 
+-- an owner that stays keeps its state
 same-state : (c w : ControlRecord) → w.owner ≡ c.owner → changes_state c.owner w.owner ≡ true → ⊥
 same-state c w same changes = grind (arith, common_steps)
 
@@ -75,6 +77,7 @@ record OffHand (t : List Entry) (e : Entry) (w : ControlRecord) : Type 0 where
   pub owner : (control t).owner ≡ running_owner e.who e.inc
   pub alone : w ≡ record (control t) { owner = with_state (state_of w.owner) (control t).owner }
 
+-- a write that changes the owner's state is the owner's own sign-off
 hand-by : (s : Scen) (t : List Entry) (e : Entry) (x : Site) (h : List Event) (w : ControlRecord) (q : Purpose) → WritesAt s t e x h w
     → e.act ≡ act.CtlWrite w → purpose h ≡ q → changes_state (control t).owner w.owner ≡ true → OffHand t e w
 hand-by s t e x h w (SignOff state) at acts purposed changes =
@@ -90,6 +93,7 @@ hand-by s t e x h w (SignOff state) at acts purposed changes =
 hand-by s t e x h w q at acts purposed changes =
     absurd (no-hand (settings s x) (purpose h) (number h) (control t) w (known_read h) at.written.did at.rule (ap is_sign_off purposed) changes)
 
+-- so is each of a run
 hand-at : (s : Scen) (t : List Entry) (e : Entry) (w : ControlRecord) → IsRun s (e ∷ t) → e.act ≡ act.CtlWrite w
     → changes_state (control t).owner w.owner ≡ true → OffHand t e w
 hand-at s t e w is acts changes =
@@ -108,30 +112,37 @@ no-more s t e (act.CtlWrite w) is acts =
     (λ changes. (hand-at s t e w is acts changes).alone)
 no-more s t e _ is acts = tt
 
--- The alternate, and with it the taking: who writes it away is the alternate itself, or signs on once it is confirmed,
+-- The alternate, and with it the taking: who writes it away is the alternate itself, or signs on once it is
+-- confirmed,
 -- or drops it.
 abbrev Lets : Purpose → (me n : ℕ) → (ℕ → Bool) → Type 0
 Lets q me n k = (k n ≡ true) ⊎ (((n ≡ me) × (of_alternate q ≡ true)) ⊎ (is_drop q ≡ true))
 
+-- who signs on as active was handed the alternate as confirmed
 alt-active : (p : Settings) (me : ℕ) (c w : ControlRecord) (known : Known) (k : ℕ → Bool) → Wrote p SignOnActive me c known w → Knows k known c
     → is_some c.alt ≡ true → k (inc_of_alt c.alt) ≡ true
 alt-active p me c w known k did knows some = grind (arith, common_steps)
 
+-- so was who signs on as standby
 alt-standby : (p : Settings) (me : ℕ) (c w : ControlRecord) (known : Known) (k : ℕ → Bool) → Wrote p SignOnStandby me c known w → Knows k known c
     → is_some c.alt ≡ true → k (inc_of_alt c.alt) ≡ true
 alt-standby p me c w known k did knows some = grind (arith, common_steps)
 
+-- a sign-off leaves the alternate
 alt-off : (p : Settings) (me : ℕ) (state : OwnerState) (c w : ControlRecord) (known : Known) → Wrote p (SignOff state) me c known w
     → alternate_goes c w ≡ true → ⊥
 alt-off p me state c w known did goes = grind (arith, common_steps)
 
+-- an alternate that writes is the one of the record
 alt-own : (p : Settings) (q : Purpose) (me : ℕ) (c w : ControlRecord) (known : Known) → Wrote p q me c known w → of_alternate q ≡ true
     → inc_of_alt c.alt ≡ me
 alt-own p q me c w known did own = grind (arith, common_steps)
 
+-- an alternate that goes was there
 goes-some : (c w : ControlRecord) → alternate_goes c w ≡ true → is_some c.alt ≡ true
 goes-some c w goes = grind (arith, common_steps)
 
+-- who writes the alternate away is it, or signs on once it is confirmed, or drops it
 alt-lets : (p : Settings) (q : Purpose) (me : ℕ) (c w : ControlRecord) (known : Known) (k : ℕ → Bool) → Wrote p q me c known w → Knows k known c
     → alternate_goes c w ≡ true → Lets q me (inc_of_alt c.alt) k
 alt-lets p SignOnActive me c w known k did knows goes = inl (alt-active p me c w known k did knows (goes-some c w goes))
@@ -146,13 +157,16 @@ alt-lets p GoThrough me c w known k did knows goes = inr (inl (alt-own p GoThrou
 taking-own : (c w : ControlRecord) → KeepsRule c → taking_goes c w ≡ true → (is_some c.alt ≡ true) × (inc_of_taking c.taking ≡ inc_of_alt c.alt)
 taking-own c w rule goes = grind (arith, common_steps)
 
+-- a sign-off leaves the taking
 taking-off : (p : Settings) (me : ℕ) (state : OwnerState) (c w : ControlRecord) (known : Known) → Wrote p (SignOff state) me c known w
     → taking_goes c w ≡ true → ⊥
 taking-off p me state c w known did goes = grind (arith, common_steps)
 
+-- a drop writes no taking away
 taking-drop : (p : Settings) (me : ℕ) (c w : ControlRecord) (known : Known) → Wrote p DropAlternate me c known w → taking_goes c w ≡ true → ⊥
 taking-drop p me c w known did goes = grind (arith, common_steps)
 
+-- who writes the taking away is its alternate, or signs on once it is confirmed
 taking-lets : (p : Settings) (q : Purpose) (me : ℕ) (c w : ControlRecord) (known : Known) (k : ℕ → Bool) → Wrote p q me c known w → Knows k known c
     → KeepsRule c → taking_goes c w ≡ true → (k (inc_of_alt c.alt) ≡ true) ⊎ ((inc_of_alt c.alt ≡ me) × (of_alternate q ≡ true))
 taking-lets p SignOnActive me c w known k did knows rule goes = inl (alt-active p me c w known k did knows (taking-own c w rule goes).0)
@@ -167,30 +181,25 @@ taking-lets p GoThrough me c w known k did knows rule goes = inr (alt-own p GoTh
 own-ended : (n inc : ℕ) (k : Bool) → (k ≡ true) ⊎ (n ≡ inc) → (n == inc || k) ≡ true
 own-ended n inc k lets = grind (arith, common_steps)
 
+-- the incarnation of an alternate's entry
 own-inc : (s : Scen) (t : List Entry) (e : Entry) (x : Site) (h : List Event) (w : ControlRecord) → WritesAt s t e x h w → e.act ≡ act.CtlWrite w
     → of_alternate (purpose h) ≡ true → number h ≡ e.inc
 own-inc s t e x h w at acts own =
     sym (inc-at s t e x h w true at acts (suits-alternate (purpose h) (is_granted h) (is_owner h) at.written.suits own).0)
 
-or-last : (a b : Bool) → a ≡ true → (a || b) ≡ true
-or-last true b is = refl
-or-last false b is = absurd (cc)
-
-or-first : (a b : Bool) → b ≡ true → (a || b) ≡ true
-or-first true b is = refl
-or-first false b is = is
-
+-- an alternate goes by its own hand, or is confirmed, or by the drop
 alt-by : (s : Scen) (t : List Entry) (e : Entry) (x : Site) (h : List Event) (w : ControlRecord) → WritesAt s t e x h w → e.act ≡ act.CtlWrite w
     → Lets (purpose h) (number h) (inc_of_alt (control t).alt) (confirmed t)
     → (is_own_or_ended t e (inc_of_alt (control t).alt) || is_drop (purpose h)) ≡ true
 alt-by s t e x h w at acts (inl ended) =
-    or-last (is_own_or_ended t e (inc_of_alt (control t).alt)) (is_drop (purpose h))
+    or-left (is_own_or_ended t e (inc_of_alt (control t).alt)) (is_drop (purpose h))
     (own-ended (inc_of_alt (control t).alt) e.inc (confirmed t (inc_of_alt (control t).alt)) (inl ended))
 alt-by s t e x h w at acts (inr (inl own)) =
-    or-last (is_own_or_ended t e (inc_of_alt (control t).alt)) (is_drop (purpose h))
+    or-left (is_own_or_ended t e (inc_of_alt (control t).alt)) (is_drop (purpose h))
     (own-ended (inc_of_alt (control t).alt) e.inc (confirmed t (inc_of_alt (control t).alt)) (inr (own.0 ∙ own-inc s t e x h w at acts own.1)))
-alt-by s t e x h w at acts (inr (inr drops)) = or-first (is_own_or_ended t e (inc_of_alt (control t).alt)) (is_drop (purpose h)) drops
+alt-by s t e x h w at acts (inr (inr drops)) = or-right (is_own_or_ended t e (inc_of_alt (control t).alt)) (is_drop (purpose h)) drops
 
+-- so it is at each act
 alternate-act : (s : Scen) (t : List Entry) (e : Entry) (x : Site) (h : List Event) (a : Act) → IsRun s (e ∷ t) → e.who ≡ who_at x → hist s t x ≡ Some h
     → e.act ≡ a → AlternateLets t e h a
 alternate-act s t e x h (act.CtlWrite w) is who here acts =
@@ -200,6 +209,7 @@ alternate-act s t e x h (act.CtlWrite w) is who here acts =
     (alt-lets (settings s x) (purpose h) (number h) (control t) w (known_read h) (confirmed t) at.written.did at.written.knows goes))
 alternate-act s t e x h _ is who here acts = tt
 
+-- a taking goes by its own hand, or is confirmed
 taking-by : (s : Scen) (t : List Entry) (e : Entry) (x : Site) (h : List Event) (w : ControlRecord) → WritesAt s t e x h w → e.act ≡ act.CtlWrite w
     → (confirmed t (inc_of_alt (control t).alt) ≡ true) ⊎ ((inc_of_alt (control t).alt ≡ number h) × (of_alternate (purpose h) ≡ true))
     → is_own_or_ended t e (inc_of_alt (control t).alt) ≡ true
@@ -207,6 +217,7 @@ taking-by s t e x h w at acts (inl ended) = own-ended (inc_of_alt (control t).al
 taking-by s t e x h w at acts (inr own) =
     own-ended (inc_of_alt (control t).alt) e.inc (confirmed t (inc_of_alt (control t).alt)) (inr (own.0 ∙ own-inc s t e x h w at acts own.1))
 
+-- so it is at each act
 taking-act : (s : Scen) (t : List Entry) (e : Entry) (a : Act) → IsRun s (e ∷ t) → e.act ≡ a → TakingLets t e a
 taking-act s t e (act.CtlWrite w) is acts =
     where-so (taking_goes (control t) w) (is_own_or_ended t e (inc_of_taking (control t).taking) ≡ true) (λ goes.
@@ -220,6 +231,7 @@ taking-act s t e (act.CtlWrite w) is acts =
     (taking-lets (settings s x) (purpose h) (number h) (control t) w (known_read h) (confirmed t) at.written.did at.written.knows rule goes))
 taking-act s t e _ is acts = tt
 
+-- a fact of an entry that lands
 where-lands : (e : Entry) (F : Type 0) → F → Where (lands e.land) F
 where-lands e F holds = where-so (lands e.land) F (λ landed. holds)
 
@@ -231,5 +243,6 @@ own-hand s t is = record {
       (λ t e is. where-lands e (ChangesNoMore t e.act) (no-more s t e e.act is refl)) t is;
   alternates = each-of s (λ t e. Where (lands e.land) (AtSite s t e.who (λ x h. AlternateLets t e h e.act)))
       (λ t e is. where-at s t e (lands e.land) (λ x h. AlternateLets t e h e.act) (λ landed x h who here. alternate-act s t e x h e.act is who here refl)) t is;
-  takings = each-of s (λ t e. Where (lands e.land) (TakingLets t e e.act)) (λ t e is. where-lands e (TakingLets t e e.act) (taking-act s t e e.act is refl)) t is;
+  takings =
+      each-of s (λ t e. Where (lands e.land) (TakingLets t e e.act)) (λ t e is. where-lands e (TakingLets t e e.act) (taking-act s t e e.act is refl)) t is;
 }

@@ -1,5 +1,5 @@
 -- What is known of the owner, the alternate, their numbers and the record at any time, and of a write that comes next.
-use Rattle.std.specs.Prelude.{◌-◌, List, Some, false, is_some, length, true, ◌≡◌, ◌≢◌, ℕ, ◌≤◌, ◌<◌, ◌^◌, ◌+◌, ◌∷◌}
+use Rattle.std.specs.Prelude.{List, Some, false, is_some, length, true, ◌-◌, ◌≡◌, ◌≢◌, ℕ, ◌≤◌, ◌<◌, ◌^◌, ◌+◌, ◌∷◌}
 use Rattle.xrf_base.specs.declared.site.Site.{Site}
 use Rattle.xrf_ctl.specs.Control.{KeepsRule, ControlRecord}
 use Rattle.xrf_ctl.specs.declared.parts.OwnerState.{OwnerState}
@@ -74,6 +74,7 @@ pub record WritesAre (s : Scen) (t : List Entry) (x : Site) (h : List Event) (wr
   -- by which a job becomes the owner it names no alternate
   pub alone : (n : ℕ) → is_owner h ≡ false → is_owner (ControlWritten written ∷ h) ≡ true → is_alt written n ≡ false
 
+-- of each write that comes next in a run
 abbrev pub WritesAreKnown : Scen → List Entry → Type 0
 WritesAreKnown s t =
     (x : Site) (h : List Event) (written : ControlRecord) → hist s t x ≡ Some h → next (settings s x) h ≡ want.CtlWrite written → WritesAre s t x h written

@@ -3,7 +3,7 @@ use Rattle.std.specs.Prelude.{List, length, ◌≤◌}
 use Rattle.xrf_setup.specs.declared.ranges.TheConstants.{CHOICES_MOST}
 use Rattle.xrf_trace.specs.declared.entry.Entry.{Entry}
 use Rattle.xrf_trace.specs.Runs.{IsRun}
-use Rattle.xrf_trace.specs.Scenario.{Scen, IsScen}
+use Rattle.xrf_trace.specs.Scenario.{IsScen, Scen}
 use Rattle.xrf_trace.specs.Each.{AtSite, Each}
 use Rattle.xrf_trace.specs.ItemsSeeBook.{TakesRestarted}
 

@@ -34,14 +34,17 @@ abbrev pub OwnerBeside : Option Owner → Site → ℕ → Type 0
 OwnerBeside None x n = ⊥
 OwnerBeside (Some o) x n = (o.site ≡ other x) × (o.inc ≢ n)
 
+-- no other alternate, and at this site
 abbrev pub AltOnly : Option Alt → Site → ℕ → Type 0
 AltOnly None x n = Unit {0}
 AltOnly (Some a) x n = (a.inc ≡ n) × (a.site ≡ x)
 
+-- beside an alternate of a number at a site: the owner is another, at the other site; no other alternate
 pub record Beside (c : ControlRecord) (x : Site) (n : ℕ) : Type 0 where
   pub owner : OwnerBeside c.owner x n
   pub alt : AltOnly c.alt x n
 
+-- of the history alone: who holds no number has 0, and until it writes its purpose suits what it is
 pub record Sound (v : View) : Type 0 where
   pub none : v.granted ≡ false → v.number ≡ 0
   pub suits : before_write v.phase ≡ true → Suits v.purpose v.granted v.owner
@@ -68,10 +71,12 @@ abbrev pub reserves_of : Option View → Bool
 reserves_of None = false
 reserves_of (Some v) = has_reserve v.phase
 
+-- two jobs that hold numbers hold two
 abbrev pub Apart : Option View → Option View → Type 0
 Apart (Some v) (Some u) = v.granted ≡ true → u.granted ≡ true → v.number ≢ u.number
 Apart _ _ = Unit {0}
 
+-- the record and both jobs, seen from a site: THE INVARIANT
 pub record Both (c : ControlRecord) (k : ℕ → Bool) (x : Site) (own beside : Option View) (r q : Bool) : Type 0 where
   pub rule : IsRuled c
   pub given : (n : ℕ) → k n ≡ true → n ≤ c.last
@@ -82,8 +87,10 @@ pub record Both (c : ControlRecord) (k : ℕ → Bool) (x : Site) (own beside : 
   pub alone : r ≡ true → q ≡ true → ⊥
   pub apart : Apart own beside
 
+-- what is read of the job at a site
 abbrev pub view_at : Scen → List Entry → Site → Option View
 view_at s t x = option_map (view (settings s x)) (hist s t x)
 
+-- the invariant of a trace, seen from a site
 abbrev pub HoldsAt : Scen → List Entry → Site → Type 0
 HoldsAt s t x = Both (control t) (confirmed t) x (view_at s t x) (view_at s t (other x)) (holds_reserve t x) (holds_reserve t (other x))

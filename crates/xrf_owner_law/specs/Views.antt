@@ -9,6 +9,7 @@ use Rattle.xrf_history.specs.Events.{Event}
 use Rattle.xrf_history.specs.declared.settings.Settings.{Settings}
 use Rattle.xrf_history.proofs.Purposes.{is_sign_off}
 
+-- what the law reads of a job's history
 pub record View : Type 0 where
   pub granted : Bool
   pub number : ℕ
@@ -18,6 +19,7 @@ pub record View : Type 0 where
   pub read : ControlRecord
   pub known : Known
 
+-- of a history
 abbrev pub view : Settings → List Event → View
 view p h = record {
   granted = is_granted h;
@@ -29,6 +31,7 @@ view p h = record {
   known = known_read h;
 }
 
+-- its sign-off is written, or it is over: it has only RELEASE and ENDED left
 abbrev pub is_over : Phase → Purpose → Bool
 is_over HasWritten q = is_sign_off q
 is_over Over q = true

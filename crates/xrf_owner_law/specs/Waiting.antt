@@ -24,15 +24,18 @@ pub record WaitView : Type 0 where
   pub decided : Bool
   pub gone : Bool
 
+-- under the reserve before the CTLREAD
 abbrev pub is_held : Phase → Bool
 is_held Held = true
 is_held _ = false
 
+-- its leave is written, or it is over
 abbrev pub is_gone : Phase → Purpose → Bool
 is_gone HasWritten (Leave reason) = true
 is_gone Over q = true
 is_gone _ _ = false
 
+-- of a history
 abbrev pub wait_view : Settings → List Event → WaitView
 wait_view p h = record {
   waiting = is_waiting h;
@@ -49,14 +52,18 @@ SameOwner None None = Unit {0}
 SameOwner (Some seen) (Some o) = (seen.inc ≡ o.inc) × (is_state o.state Running ≡ true → is_state seen.state Running ≡ true)
 SameOwner _ _ = ⊥
 
+-- the owner runs and is not confirmed
 abbrev pub MayRun : ControlRecord → (ℕ → Bool) → Bool
 MayRun c k = owner_is c Running && not (k (inc_of_owner c.owner))
 
+-- while it waits: its place and a taking stand, the owner that it saw is there, and once it decided THROUGH no owner
+-- may run
 pub record WaitsNow (c : ControlRecord) (k : ℕ → Bool) (x : Site) (v : WaitView) : Type 0 where
   pub alt : c.alt ≡ Some (record { inc = v.number; site = x })
   pub taking : is_some c.taking ≡ true
   pub saw : v.looking ≡ true → SameOwner v.seen.owner c.owner
   pub over : v.decided ≡ true → MayRun c k ≡ false
 
+-- so it is while it waits and is not gone
 abbrev pub Waits : ControlRecord → (ℕ → Bool) → Site → WaitView → Type 0
 Waits c k x v = v.waiting ≡ true → v.gone ≡ false → WaitsNow c k x v

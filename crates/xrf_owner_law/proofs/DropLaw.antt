@@ -1,69 +1,48 @@
--- A drop that is made leaves no alternate.
-use Rattle.std.proofs.Common.{Bool, List, Option, Some, ap, true, ◌≡◌, ◌∙◌, None, arith, ℕ, ◌∷◌, [], is_none, ◌&&◌, IfSome, subst, sym, refl}
-use Rattle.std.specs.Option.{option_map}
+-- A drop that is made leaves no alternate, of every run.
+use Rattle.std.proofs.Common.{None, true, ◌≡◌, arith, ℕ, Option, Some, List, ◌∷◌, Bool, [], ap, is_none, ◌&&◌, IfSome, subst, sym, ◌∙◌, refl}
 use Rattle.std.proofs.lemmas.Grind.{common_steps}
 use Rattle.xrf_base.specs.declared.site.Site.{Site}
 use Rattle.xrf_ctl.specs.Control.{ControlRecord}
 use Rattle.xrf_cavm.specs.declared.known.Known.{Known}
 use Rattle.xrf_cavm.specs.Record.{is_alt}
-use Rattle.xrf_history.specs.Events.{Event, ControlRead, ControlWritten, Released, Reserved, StartedActive, StartedStandby}
-use Rattle.xrf_history.specs.declared.settings.Settings.{Settings}
-use Rattle.xrf_history.proofs.Phases.{has_reserve, phase, HasWritten, released, HasRead, NextIn, Phase, may_release}
+use Rattle.xrf_history.proofs.Phases.{HasWritten, phase, released, has_reserve, HasRead, NextIn, Phase, may_release}
 use Rattle.xrf_history.specs.Notices.{is_drop, drop_is_made, epoch, epoch_number, number_or_none}
 use Rattle.xrf_history.specs.Reserving.{purpose, Purpose, known_read, record_by_purpose, record_read}
+use Rattle.xrf_history.specs.declared.settings.Settings.{Settings}
 use Rattle.xrf_history.proofs.Writes.{Wrote}
 use Rattle.xrf_history.specs.declared.want.Want.{Want}
 use Rattle.xrf_history.proofs.Histories.{Comes, is_started}
+use Rattle.xrf_history.specs.Events.{ControlRead, ControlWritten, Event, Released, Reserved, StartedActive, StartedStandby}
 use Rattle.xrf_history.specs.Next.{after_release, after_control_read, next}
 use Rattle.xrf_history.specs.Holding.{number}
 use Rattle.xrf_history.proofs.PhaseLaws.{write-phase, next-inside, phase-next, releases-none, releases-phase}
 use Rattle.xrf_history.specs.declared.want.Want.TheVariants as want
-use Rattle.xrf_trace.specs.declared.entry.Entry.{Entry}
-use Rattle.xrf_trace.specs.Runs.{IsRun}
-use Rattle.xrf_trace.specs.Scenario.{Scen, other, settings}
-use Rattle.xrf_trace.specs.Jobs.{hist}
-use Rattle.xrf_trace.specs.Words.{holds_reserve, confirmed}
 use Rattle.xrf_trace.proofs.EachJob.{Fact, Kept, each-job}
+use Rattle.xrf_trace.specs.Scenario.{settings, Scen}
+use Rattle.xrf_trace.specs.declared.entry.Entry.{Entry}
 use Rattle.xrf_trace.proofs.Moves.{IsHanded, control_by}
+use Rattle.xrf_trace.specs.Runs.{IsRun}
+use Rattle.xrf_trace.specs.Words.{confirmed}
 use Rattle.xrf_trace.specs.Devices.{control}
+use Rattle.xrf_trace.specs.Jobs.{hist}
 use Rattle.xrf_trace.proofs.Paths.{history-at}
-use Rattle.xrf_owner_law.specs.Owner.{reserves_of}
-use Rattle.xrf_owner_law.specs.Views.{view}
-use Rattle.xrf_owner_law.proofs.OwnerLaws.{holds-at}
-use Rattle.xrf_owner_law.proofs.FormatLaws.{writes-by}
-use Rattle.xrf_owner_law.proofs.UpdaterLaws.{job-at}
-
--- no write stands beside a job that holds the reserve
-holds-here : (p : Settings) (r : Bool) (job : Option (List Event)) (h : List Event) → r ≡ reserves_of (option_map (view p) job) → job ≡ Some h
-    → has_reserve (phase p h) ≡ true
-    → r ≡ true
-holds-here p r job h reserve here holds = reserve ∙ ap (λ (j : Option (List Event)). reserves_of (option_map (view p) j)) here ∙ holds
-
--- the reserve is the job's from RESERVE to RELEASE
-pub reserve-at : (s : Scen) (t : List Entry) (x : Site) (h : List Event) → IsRun s t → hist s t x ≡ Some h
-    → holds_reserve t x ≡ has_reserve (phase (settings s x) h)
-reserve-at s t x h is here =
-    (holds-at s t x is).reserve ∙ ap (λ (j : Option (List Event)). reserves_of (option_map (view (settings s x)) j)) here
-
-pub one-reserve : (s : Scen) (t : List Entry) (x : Site) (h g : List Event) → IsRun s t → hist s t x ≡ Some h → hist s t (other x) ≡ Some g
-    → has_reserve (phase (settings s x) h) ≡ true
-    → has_reserve (phase (settings s (other x)) g) ≡ true → ⊥
-one-reserve s t x h g is here there holds holds_there =
-    let both = holds-at s t x is in
-    both.alone (holds-here (settings s x) (holds_reserve t x) (hist s t x) h both.reserve here holds)
-    (holds-here (settings s (other x)) (holds_reserve t (other x)) (hist s t (other x)) g both.reserve_beside there holds_there)
+use Rattle.xrf_owner_law.proofs.WritesOfRuns.{writes-by}
+use Rattle.xrf_owner_law.proofs.Invariant.{one-reserve, job-at}
 
 -- after the write of a drop
 abbrev Dropped : Fact
 Dropped s c k x h = phase (settings s x) h ≡ HasWritten → is_drop (purpose h) ≡ true → c.alt ≡ None
 
+-- a drop leaves no alternate
 drops : (p : Settings) (q : Purpose) (me : ℕ) (c w : ControlRecord) (known : Known) → Wrote p q me c known w → is_drop q ≡ true → w.alt ≡ None
 drops p q me c w known did is = grind (arith, common_steps)
 
+-- after a RELEASE nothing is written
 pub not-written : (o : Option Want) → released o ≡ HasWritten → ⊥
 not-written None is = absurd (cc)
 not-written (Some w) is = absurd (cc)
 
+-- each event keeps it
 own-dropped : (s : Scen) (t : List Entry) (x : Site) (h : List Event) (made : Event) → IsRun s t → hist s t x ≡ Some h → Comes (settings s x) h made
     → IsHanded s t x h made
     → Dropped s (control t) (confirmed t) x h → Dropped s (control_by made (control t)) (confirmed t) x (made ∷ h)
@@ -76,11 +55,13 @@ own-dropped s t x h (ControlWritten w) is here comes given dropped = λ at drop.
 own-dropped s t x h Released is here comes given dropped = λ at. absurd (not-written (after_release (settings s x) h) at)
 own-dropped s t x h _ is here comes given dropped = dropped
 
+-- of a START
 dropped-born : (s : Scen) (c : ControlRecord) (k : ℕ → Bool) (x : Site) (made : Event) → is_started made ≡ true → Dropped s c k x (made ∷ [])
 dropped-born s c k x StartedActive started = λ at. absurd (cc)
 dropped-born s c k x StartedStandby started = λ at. absurd (cc)
 dropped-born s c k x _ started = absurd (cc)
 
+-- each kind of move keeps it
 dropped-kept : Kept Dropped
 dropped-kept = record {
   born = dropped-born;
@@ -95,13 +76,16 @@ dropped-kept = record {
 no-alt : (c : ControlRecord) (n : ℕ) → c.alt ≡ None → is_alt c n ≡ true → ⊥
 no-alt c n none is = grind (arith, common_steps)
 
+-- a drop that gives no record finds the alternate another one
 drop-writes : (p : Settings) (q : Purpose) (me n : ℕ) (c : ControlRecord) (known : Known) → (is_drop q && is_none c.taking) ≡ true
     → record_by_purpose p q me n c known ≡ None → is_alt c n ≡ true → ⊥
 drop-writes p q me n c known drop none is = grind (arith, common_steps)
 
+-- the first of two tests that are met
 is-drop : (a b : Bool) → (a && b) ≡ true → a ≡ true
 is-drop a b is = grind (arith, common_steps)
 
+-- at the RELEASE of a drop, by its phase
 release-drops : (s : Scen) (t : List Entry) (x : Site) (h : List Event) (n : ℕ) (f : Phase) → IsRun s t → hist s t x ≡ Some h
     → phase (settings s x) h ≡ f → may_release f ≡ true
     → next (settings s x) h ≡ want.Release → drop_is_made h ≡ true → is_alt (control t) n ≡ true → epoch h ≡ Some n → ⊥
@@ -118,6 +102,7 @@ release-drops s t x h n HasWritten is here at may releases made alt of_epoch =
     (is-drop (is_drop (purpose h)) (is_none (record_read h).taking) made)) alt
 release-drops s t x h n _ is here at may releases made alt of_epoch = absurd (cc)
 
+-- **at the RELEASE of a drop that is made the record does not name the epoch as the alternate, of every run**
 pub dropped : (s : Scen) (t : List Entry) (x : Site) (h : List Event) (n : ℕ) → IsRun s t → hist s t x ≡ Some h
     → next (settings s x) h ≡ want.Release → drop_is_made h ≡ true
     → is_alt (control t) n ≡ true → epoch h ≡ Some n → ⊥

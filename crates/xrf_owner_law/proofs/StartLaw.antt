@@ -34,6 +34,7 @@ use Rattle.xrf_trace.specs.Runs.{IsRun}
 use Rattle.xrf_trace.specs.Jobs.{hist}
 use Rattle.xrf_trace.specs.declared.entry.Act.{Act}
 use Rattle.xrf_trace.specs.StartByCause.{left_if, lets_start, start_read, start_sequence, GoesOn, StartsWhere, taking_of_start, taking_after, BringsOnly, StartsOnlyWhere, DecidesByCause, StartByCause}
+use Rattle.xrf_trace.specs.NextIsDue.{IsNext}
 use Rattle.xrf_trace.specs.Acts.{act_of, is_act}
 use Rattle.xrf_trace.proofs.Paths.{history-at}
 use Rattle.xrf_trace.specs.Each.{InPlace}
@@ -41,23 +42,23 @@ use Rattle.xrf_trace.proofs.AtSites.{made-at, where-so, at-site, each-of}
 use Rattle.xrf_trace.specs.Words.{who_at, confirmed}
 use Rattle.xrf_trace.specs.Devices.{control}
 use Rattle.xrf_trace.specs.declared.entry.Act.TheVariants as act
-use Rattle.xrf_owner_law.proofs.OwnerLaws.{holds-at}
-use Rattle.xrf_owner_law.proofs.StageLaws.{acts_of}
-use Rattle.xrf_owner_law.proofs.DueLaws.{acts-due, at-due, due-in-place}
-use Rattle.xrf_owner_law.proofs.TakingLaws.{Untaken, untaken}
-use Rattle.xrf_owner_law.proofs.WriteLaws.{WritesAt, writes-made}
-use Rattle.xrf_owner_law.proofs.DecideLaws.{decides-by-cause}
-use Rattle.xrf_trace.specs.NextIsDue.{IsNext}
+use Rattle.xrf_owner_law.proofs.Invariant.{holds-at}
+use Rattle.xrf_owner_law.proofs.DueActs.{acts_of, acts-due, at-due, due-in-place}
+use Rattle.xrf_owner_law.proofs.TakingLaw.{Untaken, untaken}
+use Rattle.xrf_owner_law.proofs.WritesOfRuns.{WritesAt, writes-made}
+use Rattle.xrf_owner_law.proofs.DecisionLaw.{decides-by-cause}
 
 -- the records that the jobs of a run were handed keep the rule
 abbrev Ruled : Fact
 Ruled s c k x h = AreRuled h
 
+-- of a START
 started-ruled : (s : Scen) (c : ControlRecord) (k : ℕ → Bool) (x : Site) (made : Event) → is_started made ≡ true → AreRuled (made ∷ [])
 started-ruled s c k x StartedActive started = tt
 started-ruled s c k x StartedStandby started = tt
 started-ruled s c k x _ started = absurd (cc)
 
+-- each event keeps it
 made-ruled : (s : Scen) (t : List Entry) (x : Site) (h : List Event) (made : Event) → IsRun s t → hist s t x ≡ Some h → Comes (settings s x) h made
     → IsHanded s t x h made → AreRuled h
     → AreRuled (made ∷ h)
@@ -65,6 +66,7 @@ made-ruled s t x h (ControlRead held known) is here comes given ruled =
     (ruled, subst (λ (c : ControlRecord). AltRule c.owner c.alt) (sym given.0) (holds-at s t x is).rule.other)
 made-ruled s t x h _ is here comes given ruled = ruled
 
+-- each kind of move keeps it
 ruled-kept : Kept Ruled
 ruled-kept = record {
   born = started-ruled;
@@ -74,6 +76,7 @@ ruled-kept = record {
   beside = λ s t x h g w is here writes there ruled. ruled;
 }
 
+-- each record that a job of a run read keeps the rule of places
 pub ruled-at : (s : Scen) (t : List Entry) (x : Site) (h : List Event) → IsRun s t → hist s t x ≡ Some h → AreRuled h
 ruled-at s t x h is here = subst (λ (job : Option (List Event)). IfSome job AreRuled) here (each-job Ruled ruled-kept s t is x)
 
@@ -85,25 +88,30 @@ start_tail held n why =
       | false ↦ left_if (is_alt held n) held ++ act.Release ∷ act.Ended end.Abandoned ∷ []
     ]
 
+-- the acts of a start from the CTLREAD on
 start-acts : (c : ControlRecord) (n : ℕ) (why : Cause) → AltRule c.owner c.alt
     → acts_of (or_else (start_takeover c n why) (leave c n)) (if is_none (start_takeover c n why) then Some end.Abandoned else None) ≡ start_tail c n why
 start-acts c n why rule = grind (arith, common_steps)
 
+-- they are those of the purpose
 start-in : (p : Settings) (q : Purpose) (why : Cause) (n : ℕ) (c : ControlRecord) (known : Known) → q ≡ StartTakeover why → AltRule c.owner c.alt
     → (acts_of (record_by_purpose p q n 0 c known) (end_by_purpose p q n c known) ≡ start_tail c n why) × (is_drop q ≡ false)
 start-in p q why n c known is rule =
     subst (λ (r : Purpose). (acts_of (record_by_purpose p r n 0 c known) (end_by_purpose p r n c known) ≡ start_tail c n why) × (is_drop r ≡ false)) (sym is)
     (start-acts c n why rule, refl)
 
+-- a cause that is read since the decision is that of the last one
 read-start : (h : List Event) (b : Bool) (why : Cause) → elim b [ true ↦ start_in (last_decision h) | false ↦ None ] ≡ Some why
     → (b ≡ true) × (start_in (last_decision h) ≡ Some why)
 read-start h true why is = (refl, is)
 read-start h false why is = absurd (cc)
 
+-- a job that has read for the start that it decided
 record InStart (h : List Event) (why : Cause) : Type 0 where
   pub purpose : purpose h ≡ StartTakeover why
   pub read : has_read h ≡ true
 
+-- where a start has read since its decision, its purpose is that start
 in-start : (p : Settings) (h : List Event) (why : Cause) → IsHistory p h → AreRuled h → start_read h ≡ Some why → InStart h why
 in-start p h why is rules starts_it =
     let parts = read-start h (has_read_since_decision h) why starts_it in
@@ -115,6 +123,7 @@ in-start p h why is rules starts_it =
     by read (inl before) = absurd (cc (sym read ∙ before.unread))
     by read (inr since) = record { purpose = since.purpose; read = since.has_read read }
 
+-- what is due of a start, by where it stands
 start-place : (s : Scen) (t : List Entry) (x : Site) (h : List Event) (why : Cause) → IsHistory (settings s x) h → AreRuled h
     → start_in (last_decision h) ≡ Some why → PlaceOf (settings s x) h
     → IsNext (slice_get (start_sequence (record_read h) (number h) why) (made_since_decision h)) (act_of s t x h (next (settings s x) h))
@@ -144,6 +153,7 @@ start-is-due s t x h why is here last =
     let rules = ruled-at s t x h is here in
     start-place s t x h why path rules last (places p h path rules why last)
 
+-- an act after DECIDE START stands in its place
 goes-act : (s : Scen) (t : List Entry) (e : Entry) (x : Site) (h : List Event) (o : Option Cause) → IsRun s (e ∷ t) → e.who ≡ who_at x → hist s t x ≡ Some h
     → start_in (last_decision h) ≡ o → GoesOn h e.act o
 goes-act s t e x h None is who here last = tt
@@ -153,6 +163,7 @@ goes-act s t e x h (Some why) is who here last =
     (made-at s t e x h is acts who here).made
     (start-is-due s t x h why is.0 here last))
 
+-- each act after DECIDE START stands in its place
 pub starts-where : (s : Scen) (t : List Entry) (e : Entry) → IsRun s (e ∷ t) → StartsWhere s t e
 starts-where s t e is = at-site s t e.who (λ x h. GoesOn h e.act (start_in (last_decision h)))
     (λ x h who here. goes-act s t e x h (start_in (last_decision h)) is who here refl)
@@ -162,9 +173,11 @@ abbrev has_read_it : Phase → Bool
 has_read_it HasRead = true
 has_read_it _ = false
 
+-- a job that has read under the reserve has read since its decision
 abbrev IsReadSince : Settings → List Event → Type 0
 IsReadSince p h = has_read_it (phase p h) ≡ true → has_read_since_decision h ≡ true
 
+-- each event keeps it
 since-step : (p : Settings) (h : List Event) (e : Event) → IsHistory p h → Comes p h e → IsReadSince p h → IsReadSince p (e ∷ h)
 since-step p h (ControlRead held known) is comes since = λ here. refl
 since-step p h (DecisionMade known n decision) is comes since = λ here. absurd (cc (sym (ap has_read_it (work-phase p h is (ap is_work comes.0))) ∙ here))
@@ -179,17 +192,21 @@ since-step p h StartedActive is comes since = absurd comes
 since-step p h StartedStandby is comes since = absurd comes
 since-step p h _ is comes since = since
 
+-- of a history
 read-since : (p : Settings) (h : List Event) → IsHistory p h → phase p h ≡ HasRead → has_read_since_decision h ≡ true
 read-since p h is here = induct IsReadSince (λ p. λ here. absurd (cc)) (λ p. λ here. absurd (cc)) since-step p h is (ap has_read_it here)
 
+-- a start that is let brings its own taking
 brings-start : (p : Settings) (me : ℕ) (why : Cause) (c w : ControlRecord) (known : Known) → Wrote p (StartTakeover why) me c known w → AltRule c.owner c.alt
     → is_some w.taking ≡ true → (w.taking ≡ Some (record { inc = me; cause = why })) × (lets_start c me ≡ true)
 brings-start p me why c w known did rule brings = grind (arith, common_steps)
 
+-- any other write brings no taking
 keeps-taking : (p : Settings) (q : Purpose) (me : ℕ) (c w : ControlRecord) (known : Known) → Wrote p q me c known w → is_start q ≡ false
     → is_some w.taking ≡ true → w.taking ≡ c.taking
 keeps-taking p q me c w known did other brings = grind (arith, common_steps)
 
+-- the taking of the start that is read
 taking-of : (h : List Event) (w c : ControlRecord) (n : ℕ) (why : Cause) (read : Bool) → read ≡ true → start_in (last_decision h) ≡ Some why
     → w.taking ≡ Some (record { inc = n; cause = why }) → lets_start c n ≡ true
     → w.taking ≡ taking_of_start c n (elim read [ true ↦ start_in (last_decision h) | false ↦ None ])
@@ -197,9 +214,11 @@ taking-of h w c n why true read last taking lets =
     taking ∙ sym (ap (taking_of_start c n) last ∙ ap (λ (b : Bool). if b then Some (record { inc = n; cause = why }) else None) lets)
 taking-of h w c n why false read last taking lets = absurd (cc)
 
+-- a taking where none was read
 after-none : (w c : ControlRecord) (started : Option Taking) → c.taking ≡ None → w.taking ≡ started → w.taking ≡ taking_after c started
 after-none w c started none is = is ∙ sym (ap (λ (o : Option Taking). elim o [ None ↦ started | Some taking ↦ Some taking ]) none)
 
+-- a taking that was read
 after-some : (w c : ControlRecord) (started : Option Taking) → is_some w.taking ≡ true → w.taking ≡ c.taking → w.taking ≡ taking_after c started
 after-some w c started some is = is ∙ by c.taking (ap (λ (o : Option Taking). is_some o) (sym is) ∙ some)
   where
@@ -207,6 +226,7 @@ after-some w c started some is = is ∙ by c.taking (ap (λ (o : Option Taking).
     by None none = absurd (cc)
     by (Some taking) there = refl
 
+-- what a write brings, by its purpose
 brings-by : (p : Settings) (h : List Event) (w : ControlRecord) (q : Purpose) → IsHistory p h → phase p h ≡ HasRead
     → Wrote p q (number h) (record_read h) (known_read h) w
     → IsCalled h q → AltRule (record_read h).owner (record_read h).alt → (is_start q ≡ true → (record_read h).taking ≡ None) → is_some w.taking ≡ true
@@ -224,9 +244,11 @@ tracks-now : (granted owner started : Bool) → granted ≡ true → owner ≡ f
     → (granted && not owner && not started) ≡ true
 tracks-now granted owner started has none waits = grind (arith, common_steps)
 
+-- who starts holds a number and is no owner
 start-suits : (q : Purpose) (granted owner : Bool) → Suits q granted owner → is_start q ≡ true → (granted ≡ true) × (owner ≡ false)
 start-suits q granted owner suits is = grind (arith, common_steps)
 
+-- a tracking alternate reads no taking
 untaken-read : (s : Scen) (t : List Entry) (e : Entry) (x : Site) (h : List Event) (w : ControlRecord) → IsRun s t → hist s t x ≡ Some h → WritesAt s t e x h w
     → is_start (purpose h) ≡ true → (record_read h).taking ≡ None
 untaken-read s t e x h w is here at start =
@@ -237,6 +259,7 @@ untaken-read s t e x h w is here at start =
     ∙ subst (λ (job : Option (List Event)). IfSome job (Untaken s (control t) (confirmed t) x)) here (untaken s t is x)
     (tracks-now (is_granted h) (is_owner h) (has_started_takeover h) place.0 place.1 waits)
 
+-- a write that has a taking has the one that it read, or the one of its start
 brings-act : (s : Scen) (t : List Entry) (e : Entry) (x : Site) (h : List Event) (a : Act) → IsRun s (e ∷ t) → e.who ≡ who_at x → hist s t x ≡ Some h
     → e.act ≡ a → BringsOnly h a
 brings-act s t e x h (act.CtlWrite w) is who here acts =
@@ -248,9 +271,11 @@ brings-act s t e x h (act.CtlWrite w) is who here acts =
     (ruled-read h (ruled-at s t x h is.0 here)) (untaken-read s t e x h w is.0 here at) brings)
 brings-act s t e x h _ is who here acts = tt
 
+-- so has each write of a run
 pub starts-only-where : (s : Scen) (t : List Entry) (e : Entry) → IsRun s (e ∷ t) → StartsOnlyWhere s t e
 starts-only-where s t e is = at-site s t e.who (λ x h. BringsOnly h e.act) (λ x h who here. brings-act s t e x h e.act is who here refl)
 
+-- **start by cause, of every run**
 pub start-by-cause : (s : Scen) (t : List Entry) → IsRun s t → StartByCause s t
 start-by-cause s t is = record {
   decides = each-of s (DecidesByCause s) (decides-by-cause s) t is;

@@ -1,5 +1,5 @@
--- From DECIDE START on: what is due is the next act.
-use Rattle.std.proofs.Common.{None, Option, Some, ◌≡◌, List, slice_get, subst, sym, ℕ, length, ◌≤◌, arith, ap, false, true}
+-- The acts under the reserve: what stands in its place is the next act.
+use Rattle.std.proofs.Common.{List, None, Option, Some, ◌∷◌, [], arith, length, refl, slice_get, suc, zero, ◌≡◌, ℕ, ◌≤◌, subst, sym, ap, false, true}
 use Rattle.std.proofs.lemmas.Grind.{common_steps}
 use Rattle.xrf_base.specs.declared.site.Site.{Site}
 use Rattle.xrf_ctl.specs.Control.{ControlRecord}
@@ -15,20 +15,35 @@ use Rattle.xrf_history.specs.Notices.{is_drop}
 use Rattle.xrf_history.proofs.PhaseLaws.{phase-next}
 use Rattle.xrf_history.specs.Reserving.{purpose}
 use Rattle.xrf_trace.specs.declared.entry.Act.{Act}
+use Rattle.xrf_trace.specs.NextIsDue.{IsNext}
 use Rattle.xrf_trace.specs.Each.{InPlace, IsAct}
 use Rattle.xrf_trace.specs.declared.entry.Entry.{Entry}
 use Rattle.xrf_trace.specs.Scenario.{Scen, settings}
 use Rattle.xrf_trace.specs.Acts.{act_of}
-use Rattle.xrf_owner_law.proofs.StageLaws.{past, acts_of}
-use Rattle.xrf_trace.specs.NextIsDue.{IsNext}
+use Rattle.xrf_trace.specs.declared.entry.Act.TheVariants as act
+
+-- the act that stands at a place of the acts under the reserve
+abbrev pub acts_of : Option ControlRecord → Option EndWhy → List Act
+acts_of (Some w) (Some reason) = act.CtlWrite w ∷ act.Release ∷ act.Ended reason ∷ []
+acts_of (Some w) None = act.CtlWrite w ∷ act.Release ∷ []
+acts_of None (Some reason) = act.Release ∷ act.Ended reason ∷ []
+acts_of None None = act.Release ∷ []
+
+-- behind its end a sequence has nothing
+pub past : (acts : List Act) (k : ℕ) → length acts ≤ k → slice_get acts k ≡ None
+past [] k is = refl
+past (a ∷ acts) zero is = absurd (omega (arith, is))
+past (a ∷ acts) (suc k) is = past acts k (omega (arith, is))
 
 -- what stands in a place of a sequence is the next act
 pub at-due : (acts : List Act) (k n : ℕ) (a : Option Act) → k ≡ n → IsNext (slice_get acts n) a → IsNext (slice_get acts k) a
 at-due acts k n a same is = subst (λ (m : ℕ). IsNext (slice_get acts m) a) (sym same) is
 
+-- behind its end nothing is due
 pub past-due : (acts : List Act) (k : ℕ) (a : Option Act) → length acts ≤ k → IsNext (slice_get acts k) a
 past-due acts k a is = subst (λ (o : Option Act). IsNext o a) (sym (past acts k is)) tt
 
+-- what is made where it is due stands in its place
 pub due-in-place : (acts : List Act) (k : ℕ) (o : Option Act) (a : Act) → o ≡ Some a → IsNext (slice_get acts k) o → InPlace acts k a
 due-in-place acts k o a made due = by (slice_get acts k) due
   where
@@ -58,6 +73,7 @@ due-place s t x h None None made i Outside w at wants = past-due (acts_of None N
 due-place s t x h writes (Some reason) made i Outside w at wants = absurd (cc (at.1))
 due-place s t x h writes ends made i _ w at wants = absurd at
 
+-- **under the reserve what is due from the CTLREAD on is the next act**
 pub acts-due : (s : Scen) (t : List Entry) (x : Site) (h : List Event) → IsHistory (settings s x) h → is_drop (purpose h) ≡ false → has_read h ≡ true
     → IsNext (slice_get (acts_of (to_write (settings s x) h) (to_end (settings s x) h)) (made_since_read h)) (act_of s t x h (next (settings s x) h))
 acts-due s t x h is no_drop has =

@@ -1,10 +1,12 @@
--- What the law of the log rests on, of every run.
-use Rattle.std.proofs.Common.{Bool, true, ◌≡◌, List, is_some, arith, ℕ, ◌&&◌, false, refl, ◌||◌, None, Option, Some, subst, sym, ◌∙◌, ap, ◌∷◌, [], IfSome, not}
+-- An owner that has not signed off is the running one, and who has signed off has its sign-off due still, of every run.
+use Rattle.std.proofs.Common.{Bool, true, ◌≡◌, List, is_some, arith, not, ℕ, ◌&&◌, false, refl, ◌||◌, None, Option, Some, subst, sym, ◌∙◌, ap, ◌∷◌, [], IfSome}
 use Rattle.std.proofs.lemmas.Grind.{common_steps}
 use Rattle.std.proofs.lemmas.Bool.{and_parts}
 use Rattle.xrf_base.specs.declared.site.Site.{Site}
 use Rattle.xrf_ctl.specs.Control.{ControlRecord}
+use Rattle.xrf_ctl.specs.declared.parts.OwnerState.TheVariants.{Running}
 use Rattle.xrf_cavm.specs.declared.known.Known.{Known}
+use Rattle.xrf_cavm.specs.Record.{owner_is}
 use Rattle.xrf_cavm.specs.Writes.{sign_off}
 use Rattle.xrf_history.proofs.Phases.{HasWritten, Over, Phase, phase, HasRead, NextIn, may_release}
 use Rattle.xrf_history.specs.Reserving.{Purpose, purpose, sign_off_due, SignOff, known_read, record_by_purpose, record_read}
@@ -32,15 +34,13 @@ use Rattle.xrf_trace.specs.Devices.{control}
 use Rattle.xrf_trace.specs.Words.{confirmed, who_at}
 use Rattle.xrf_trace.proofs.Sites.{running-at}
 use Rattle.xrf_trace.specs.OneUpdater.{running_owner}
-use Rattle.xrf_cavm.specs.Record.{owner_is}
-use Rattle.xrf_ctl.specs.declared.parts.OwnerState.TheVariants.{Running}
 use Rattle.xrf_owner_law.specs.Owner.{IsOwner}
-use Rattle.xrf_owner_law.proofs.RuleLaws.{sign-off-gives}
+use Rattle.xrf_owner_law.proofs.RuleLaw.{sign-off-gives}
 use Rattle.xrf_owner_law.specs.Views.{is_over}
-use Rattle.xrf_owner_law.proofs.UpdaterLaws.{job-at}
-use Rattle.xrf_owner_law.proofs.DropLaws.{not-written}
-use Rattle.xrf_owner_law.proofs.FormatLaws.{writes-by}
-use Rattle.xrf_owner_law.proofs.StayLaws.{ends-at}
+use Rattle.xrf_owner_law.proofs.Invariant.{job-at}
+use Rattle.xrf_owner_law.proofs.DropLaw.{not-written}
+use Rattle.xrf_owner_law.proofs.WritesOfRuns.{writes-by}
+use Rattle.xrf_owner_law.proofs.StayingLaw.{ends-at}
 
 -- a job with a purpose to sign off has signed off once it has written, and once it is over; and then it is due still
 pub record Signing (f : Phase) (q : Purpose) (off due : Bool) : Type 0 where
@@ -48,9 +48,11 @@ pub record Signing (f : Phase) (q : Purpose) (off due : Bool) : Type 0 where
   pub over : f ≡ Over → is_sign_off q ≡ true → off ≡ true
   pub lasts : off ≡ true → due ≡ true
 
+-- of a history
 abbrev SignsBy : Settings → List Event → Type 0
 SignsBy p h = Signing (phase p h) (purpose h) (has_signed_off h) (is_some (sign_off_due h))
 
+-- as a fact of each job
 abbrev Signs : Fact
 Signs s c k x h = SignsBy (settings s x) h
 
@@ -65,9 +67,11 @@ stays-write : (p : Settings) (q : Purpose) (me : ℕ) (c w : ControlRecord) (kno
     → granted ≡ true → not (owner_is w Running) ≡ true → is_sign_off q ≡ true
 stays-write p q me c w known x granted did runs suits is off = grind (arith, common_steps)
 
+-- two tests that are met
 and-of : (a b : Bool) → a ≡ true → b ≡ true → (a && b) ≡ true
 and-of a b first second = grind (arith, common_steps)
 
+-- who signs off is an owner
 suits-owner : (q : Purpose) (granted owner : Bool) → Suits q granted owner → is_sign_off q ≡ true → owner ≡ true
 suits-owner q granted owner suits is = grind (arith, common_steps)
 
@@ -83,6 +87,7 @@ not-none : (o : Option ControlRecord) → is_some o ≡ true → o ≡ None → 
 not-none None some none = absurd (cc)
 not-none (Some w) some none = absurd (cc)
 
+-- a sign-off has a record to write
 gives-off : (s : Scen) (t : List Entry) (x : Site) (h : List Event) (q : Purpose) → IsRun s t → hist s t x ≡ Some h
     → phase (settings s x) h ≡ HasRead → purpose h ≡ q → is_sign_off q ≡ true
     → record_by_purpose (settings s x) q (number h) (epoch_number h) (record_read h) (known_read h) ≡ None → ⊥
@@ -90,6 +95,7 @@ gives-off s t x h (SignOff state) is here at purposed off none =
     not-none (sign_off (record_read h) (number h) state) (sign-off-gives s t x h state is here at purposed) none
 gives-off s t x h _ is here at purposed off none = absurd (cc)
 
+-- who releases after a sign-off has signed off
 release-signs : (s : Scen) (t : List Entry) (x : Site) (h : List Event) (f : Phase) → IsRun s t → hist s t x ≡ Some h → phase (settings s x) h ≡ f
     → may_release f ≡ true
     → next (settings s x) h ≡ want.Release → SignsBy (settings s x) h → is_sign_off (purpose h) ≡ true → has_signed_off h ≡ true
@@ -101,6 +107,7 @@ release-signs s t x h HasRead is here at may releases signing off =
 release-signs s t x h HasWritten is here at may releases signing off = signing.written at off
 release-signs s t x h _ is here at may releases signing off = absurd (cc)
 
+-- each event keeps it
 own-signs : (s : Scen) (t : List Entry) (x : Site) (h : List Event) (made : Event) → IsRun s t → hist s t x ≡ Some h → Comes (settings s x) h made
     → IsHanded s t x h made
     → SignsBy (settings s x) h → SignsBy (settings s x) (made ∷ h)
@@ -137,11 +144,13 @@ own-signs s t x h Released is here comes given signing =
 own-signs s t x h made is here comes given signing =
     record { written = signing.written; over = signing.over; lasts = λ off. due-stays h made (signing.lasts off) }
 
+-- of a START
 signs-born : (s : Scen) (c : ControlRecord) (k : ℕ → Bool) (x : Site) (made : Event) → is_started made ≡ true → Signs s c k x (made ∷ [])
 signs-born s c k x StartedActive started = record { written = λ at. absurd (cc); over = λ at. absurd (cc); lasts = λ off. absurd (cc) }
 signs-born s c k x StartedStandby started = record { written = λ at. absurd (cc); over = λ at. absurd (cc); lasts = λ off. absurd (cc) }
 signs-born s c k x _ started = absurd (cc)
 
+-- each kind of move keeps it
 signs-kept : Kept Signs
 signs-kept = record {
   born = signs-born;
@@ -151,6 +160,7 @@ signs-kept = record {
   beside = λ s t x h g w is here writes there holds. holds;
 }
 
+-- who has written to sign off has signed off, and then it is due still, of every run
 signs-at : (s : Scen) (t : List Entry) (x : Site) (h : List Event) → IsRun s t → hist s t x ≡ Some h → SignsBy (settings s x) h
 signs-at s t x h is here = subst (λ (job : Option (List Event)). IfSome job (Signs s (control t) (confirmed t) x)) here (each-job Signs signs-kept s t is x)
 
@@ -158,6 +168,7 @@ signs-at s t x h is here = subst (λ (job : Option (List Event)). IfSome job (Si
 not-signed : (a b : Bool) → (a && not b) ≡ true → (a ≡ true) × (b ≡ false)
 not-signed a b is = grind (arith, common_steps)
 
+-- an owner that does not sign off is not over
 not-over : (f : Phase) (q : Purpose) (off : Bool) → off ≡ false → (f ≡ HasWritten → is_sign_off q ≡ true → off ≡ true) → (f ≡ Over → off ≡ true)
     → is_over f q ≡ false
 not-over HasWritten q off stays written over = not-true (is_sign_off q) (λ is. cc (sym stays ∙ written refl is))
@@ -168,6 +179,7 @@ not-over HasWritten q off stays written over = not-true (is_sign_off q) (λ is. 
 not-over Over q off stays written over = absurd (cc (sym stays ∙ over refl))
 not-over _ q off stays written over = refl
 
+-- **an active is the Running owner of its site, of every run**
 pub writer : (s : Scen) (t : List Entry) (x : Site) (h : List Event) → IsRun s t → hist s t x ≡ Some h → is_active h ≡ true
     → (control t).owner ≡ running_owner (who_at x) (number h)
 writer s t x h is here works =

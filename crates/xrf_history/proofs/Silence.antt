@@ -345,11 +345,6 @@ look-seen p h held signal false is comes before silent seen =
 read-busy : (p : Settings) (h : List Event) (held : ControlRecord) (known : Known) → is_busy_of (inside p (ControlRead held known ∷ h)) ≡ false
 read-busy p h held known = grind (arith, common_steps)
 
--- a sign-off for which it reserved stays due
-off-now : (o : Option OwnerState) → is_sign_off (purpose_of_owner o) ≡ true → is_some o ≡ true
-off-now None is = absurd (cc)
-off-now (Some state) is = refl
-
 -- what is due of an owner that reads a taking
 owner-due : (off : Option OwnerState) (told : Option Notice) (act : Option Want) (seen read : ControlRecord) (q : Purpose) (granted owner : Bool)
     → Suits q granted owner → owner ≡ true

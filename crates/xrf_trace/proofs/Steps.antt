@@ -241,9 +241,3 @@ outcome-step s t c e is = outcome-entry (Step s t) s t c e is (accepted-step s t
 -- each entry of a run comes in one of these ways
 pub run-step : (s : Scen) (t : List Entry) (e : Entry) → IsRun s (e ∷ t) → Step s t e
 run-step s t e is = outcome-step s t is.1.0 e is.1.1
-
--- an induction over runs, an entry at a time
-pub run-induct : (s : Scen) (P : List Entry → Type 0) → P [] → ((t : List Entry) → IsRun s t → P t → (e : Entry) → Step s t e → P (e ∷ t))
-    → (t : List Entry) → IsRun s t → P t
-run-induct s P first step [] is = first
-run-induct s P first step (e ∷ t) is = step t is.0 (run-induct s P first step t is.0) e (run-step s t e is)

@@ -235,8 +235,3 @@ reads-want s t x h w is = tells s t x h w act.CtlRead is
 -- a LOOK1 tells so
 pub looks-want : (s : Scen) (t : List Entry) (x : Site) (h : List Event) (w : Want) → act_of s t x h w ≡ Some act.Look1 → w ≡ want.Look1
 looks-want s t x h w is = tells s t x h w act.Look1 is
-
--- a LOGOPEN tells so
-pub opens-want : (s : Scen) (t : List Entry) (x : Site) (h : List Event) (w : Want) (place : ℕ) (rec : LogRec) → act_of s t x h w ≡ Some (act.LogOpen place rec)
-    → w ≡ want.LogOpen place rec
-opens-want s t x h w place rec is = tells s t x h w (act.LogOpen place rec) is

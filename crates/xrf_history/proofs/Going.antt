@@ -53,7 +53,8 @@ pub record Ready (made : ℕ) (act : Option Want) (granted owner lines : Bool) (
   pub outside : f ≡ Outside
 
 -- where a through stands: at the decision, at RESERVE, at CTLREAD, at CTLWRITE, or behind it
-pub data Place (made : ℕ) (act : Option Want) (granted owner lines : Bool) (stays : Option EndWhy) (opened last : Option Decided) (f : Phase) (q : Purpose) (lets : Bool) (alt me : Option Alt) : Type 0 where
+pub data Place (made : ℕ) (act : Option Want) (granted owner lines : Bool) (stays : Option EndWhy) (opened last : Option Decided) (f : Phase)
+    (q : Purpose) (lets : Bool) (alt me : Option Alt) : Type 0 where
   AtDecision : Ready made act granted owner lines stays opened last f → Place made act granted owner lines stays opened last f q lets alt me
   AtReserve : made ≡ 1 → f ≡ Held → q ≡ GoThrough → Place made act granted owner lines stays opened last f q lets alt me
   AtRead : made ≡ 2 → f ≡ HasRead → q ≡ GoThrough → lets ≡ true → alt ≡ me → Place made act granted owner lines stays opened last f q lets alt me
@@ -100,7 +101,8 @@ Through h = is_through_decision (last_decision h) ≡ true
 
 -- at the decision RESERVE is next, by what is known there
 pub ready-reserves : (p : Settings) (h : List Event) → Through h
-    → Ready (made_since_decision h) (inside p h) (is_granted h) (is_owner h) (lines_left p h) (leaves h) (open_decision h) (last_decision h) (phase p h) → next p h ≡ want.Reserve
+    → Ready (made_since_decision h) (inside p h) (is_granted h) (is_owner h) (lines_left p h) (leaves h) (open_decision h) (last_decision h)
+    (phase p h) → next p h ≡ want.Reserve
 ready-reserves p h through ready = ready-next p h ready.at ready.no_owner ready.no_lines ready.stays_on ready.same through
 
 -- work comes only behind the sequence

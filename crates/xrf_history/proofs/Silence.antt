@@ -65,7 +65,8 @@ IsDue None told act seen read f q =
     ⊎ (((is_looking_of act ≡ true) × (is_some seen.taking ≡ true)) ⊎ ((f ≡ HasRead) × (is_drop q ≡ true) × (is_some read.taking ≡ true)))
 
 -- an owner that has seen a taking: nothing busy is inside, and its notice, its DECIDE or its RELEASE is due
-record Silenced (owner : Bool) (off : Option OwnerState) (told : Option Notice) (act : Option Want) (seen read : ControlRecord) (f : Phase) (q : Purpose) : Type 0 where
+record Silenced (owner : Bool) (off : Option OwnerState) (told : Option Notice) (act : Option Want) (seen read : ControlRecord) (f : Phase)
+    (q : Purpose) : Type 0 where
   pub is_owner : owner ≡ true
   pub inner : is_busy_of act ≡ false
   pub due : IsDue off told act seen read f q
@@ -109,7 +110,8 @@ dropping-rests : (p : Settings) (h : List Event) → IsHistory p h → phase p h
     → is_resting (next p h) ≡ true
 dropping-rests p h is at drop taking =
     ap is_resting
-    (next-inside p h (after_control_read p h) (subst (NextIn p h) at (phase-next p h is)) ∙ dropping-writes p (purpose h) (number h) (epoch_number h) (record_read h) (known_read h) drop taking)
+    (next-inside p h (after_control_read p h) (subst (NextIn p h) at (phase-next p h is)) ∙ dropping-writes p (purpose h) (number h)
+    (epoch_number h) (record_read h) (known_read h) drop taking)
 
 -- with no sign-off due nothing busy is next
 rests : (p : Settings) (h : List Event) → IsHistory p h → IsSilenced p h → sign_off_due h ≡ None → is_resting (next p h) ≡ true
@@ -236,7 +238,8 @@ look-taking p h w is comes looking silenced off =
     by (inr (inl here)) = here.1
     by (inr (inr dropping)) =
         absurd
-        (cc (sym (next-inside p h (after_control_read p h) (subst (NextIn p h) dropping.0 (phase-next p h is)) ∙ dropping-writes p (purpose h) (number h) (epoch_number h) (record_read h) (known_read h) dropping.1 dropping.2) ∙ comes, looking))
+        (cc (sym (next-inside p h (after_control_read p h) (subst (NextIn p h) dropping.0 (phase-next p h is)) ∙ dropping-writes p (purpose h)
+        (number h) (epoch_number h) (record_read h) (known_read h) dropping.1 dropping.2) ∙ comes, looking))
 
 -- after a LOOK2
 looked-due : (p : Settings) (h : List Event) (signal : Option SignalRecord) (n : ℕ) → IsHistory p h → next p h ≡ want.Look2 → IsSilenced p h

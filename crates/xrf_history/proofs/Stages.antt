@@ -60,7 +60,8 @@ worked p h w act act' is comes work at =
 -- the number counts for those who hold one
 same-number : (p : Settings) (q : Purpose) (granted owner : Bool) (n last : ℕ) (c : ControlRecord) (known : Known) → Suits q granted owner
     → (owner ≡ true → granted ≡ true)
-    → (record_by_purpose p q (if granted then n else last) 0 c known ≡ record_by_purpose p q n 0 c known) × (end_by_purpose p q (if granted then n else last) c known ≡ end_by_purpose p q n c known)
+    → (record_by_purpose p q (if granted then n else last) 0 c known ≡ record_by_purpose p q n 0 c known) ×
+    (end_by_purpose p q (if granted then n else last) c known ≡ end_by_purpose p q n c known)
 same-number p q granted owner n last c known suits is_granted = grind (arith, common_steps)
 
 -- but for a drop the epoch does not count

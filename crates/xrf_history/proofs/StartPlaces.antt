@@ -38,7 +38,8 @@ pub record Ready (made : ℕ) (act : Option Want) (owner lines : Bool) (left : O
   pub outside : f ≡ Outside
 
 -- where a start stands: at the decision, at RESERVE, or behind its CTLREAD
-pub data Place (made count : ℕ) (act : Option Want) (owner lines : Bool) (left : Option EndWhy) (opened last : Option Decided) (since : Bool) (f : Phase) : Type 0 where
+pub data Place (made count : ℕ) (act : Option Want) (owner lines : Bool) (left : Option EndWhy) (opened last : Option Decided) (since : Bool)
+    (f : Phase) : Type 0 where
   AtDecision : Ready made act owner lines left opened last since f → Place made count act owner lines left opened last since f
   AtReserve : made ≡ 1 → f ≡ Held → since ≡ false → Place made count act owner lines left opened last since f
   AfterRead : made ≡ suc (suc count) → is_held f ≡ false → since ≡ true → Place made count act owner lines left opened last since f
@@ -60,7 +61,8 @@ ready-boundary p h why no_owner no_lines none_left due = grind (arith, common_st
 
 -- at the decision RESERVE is next
 pub ready-reserves : (p : Settings) (h : List Event) (why : Cause) → start_in (last_decision h) ≡ Some why
-    → Ready (made_since_decision h) (inside p h) (is_owner h) (lines_left p h) (leaves h) (open_decision h) (last_decision h) (has_read_since_decision h) (phase p h) → next p h ≡ want.Reserve
+    → Ready (made_since_decision h) (inside p h) (is_owner h) (lines_left p h) (leaves h) (open_decision h) (last_decision h)
+    (has_read_since_decision h) (phase p h) → next p h ≡ want.Reserve
 ready-reserves p h why last ready =
     ap (or_boundary p h) ready.at ∙ ready-boundary p h why ready.no_owner ready.no_lines ready.none_left (ap start_in ready.same ∙ last)
 
@@ -82,7 +84,8 @@ no-second : (p : Settings) (h : List Event) (why : Cause) → IsHistory p h → 
     → ⊥
 no-second p h why is comes since last at = by at.at
   where
-    by : (Before (open_decision h) (last_decision h) (has_read_since_decision h) (phase p h) ⊎ Since (open_decision h) (has_read_since_decision h) (has_read h) (purpose h) why) → ⊥
+    by : (Before (open_decision h) (last_decision h) (has_read_since_decision h) (phase p h) ⊎ Since (open_decision h) (has_read_since_decision h)
+        (has_read h) (purpose h) why) → ⊥
     by (inl before) = absurd (cc (sym before.unread ∙ since))
     by (inr rest) = nothing-due p h why is comes at rest.none
 

@@ -53,7 +53,8 @@ pub record Since (opened : Option Decided) (since read : Bool) (q : Purpose) (wh
   pub has_read : since ≡ true → read ≡ true
 
 -- a job that decided to start
-pub record Starting (granted owner : Bool) (stays : Option EndWhy) (reading : Bool) (opened last : Option Decided) (since read : Bool) (q : Purpose) (f : Phase) (why : Cause) : Type 0 where
+pub record Starting (granted owner : Bool) (stays : Option EndWhy) (reading : Bool) (opened last : Option Decided) (since read : Bool) (q : Purpose)
+    (f : Phase) (why : Cause) : Type 0 where
   pub is_granted : granted ≡ true
   pub no_owner : owner ≡ false
   pub none_left : stays ≡ None
@@ -122,7 +123,8 @@ start-reserved : (p : Settings) (h : List Event) (why : Cause) → IsHistory p h
     → StartsAt p (Reserved ∷ h) why
 start-reserved p h why is comes last starting = by starting.at
   where
-    by : (Before (open_decision h) (last_decision h) (has_read_since_decision h) (phase p h) ⊎ Since (open_decision h) (has_read_since_decision h) (has_read h) (purpose h) why)
+    by : (Before (open_decision h) (last_decision h) (has_read_since_decision h) (phase p h) ⊎ Since (open_decision h) (has_read_since_decision h)
+        (has_read h) (purpose h) why)
         → StartsAt p (Reserved ∷ h) why
     by (inl before) = record {
       is_granted = starting.is_granted;
@@ -143,7 +145,8 @@ start-read-step : (p : Settings) (h : List Event) (held : ControlRecord) (known 
     → StartsAt p (ControlRead held known ∷ h) why
 start-read-step p h held known why is comes starting = by starting.at
   where
-    by : (Before (open_decision h) (last_decision h) (has_read_since_decision h) (phase p h) ⊎ Since (open_decision h) (has_read_since_decision h) (has_read h) (purpose h) why)
+    by : (Before (open_decision h) (last_decision h) (has_read_since_decision h) (phase p h) ⊎ Since (open_decision h) (has_read_since_decision h)
+        (has_read h) (purpose h) why)
         → StartsAt p (ControlRead held known ∷ h) why
     by (inl before) = absurd (cc (sym before.outside ∙ read-phase p h is comes))
     by (inr since) = record {
@@ -160,7 +163,8 @@ start-write-step : (p : Settings) (h : List Event) (w : ControlRecord) (why : Ca
     → StartsAt p (ControlWritten w ∷ h) why
 start-write-step p h w why is comes ruled starting = by starting.at
   where
-    by : (Before (open_decision h) (last_decision h) (has_read_since_decision h) (phase p h) ⊎ Since (open_decision h) (has_read_since_decision h) (has_read h) (purpose h) why)
+    by : (Before (open_decision h) (last_decision h) (has_read_since_decision h) (phase p h) ⊎ Since (open_decision h) (has_read_since_decision h)
+        (has_read h) (purpose h) why)
         → StartsAt p (ControlWritten w ∷ h) why
     by (inl before) = absurd (cc (sym before.outside ∙ (write-phase p h w is comes).0))
     by (inr since) = record {
@@ -179,7 +183,8 @@ outside-releases f is may = absurd (cc (sym (ap may_release is) ∙ may))
 start-release-step : (p : Settings) (h : List Event) (why : Cause) → IsHistory p h → next p h ≡ want.Release → StartsAt p h why → StartsAt p (Released ∷ h) why
 start-release-step p h why is comes starting = by starting.at
   where
-    by : (Before (open_decision h) (last_decision h) (has_read_since_decision h) (phase p h) ⊎ Since (open_decision h) (has_read_since_decision h) (has_read h) (purpose h) why)
+    by : (Before (open_decision h) (last_decision h) (has_read_since_decision h) (phase p h) ⊎ Since (open_decision h) (has_read_since_decision h)
+        (has_read h) (purpose h) why)
         → StartsAt p (Released ∷ h) why
     by (inl before) = absurd (outside-releases (phase p h) before.outside (releases-phase p h is comes))
     by (inr since) = record {

@@ -52,7 +52,8 @@ due-in-place acts k o a made due = by (slice_get acts k) due
     by (Some wanted) due = grind (arith, common_steps)
 
 -- under the reserve from the CTLREAD on
-due-place : (s : Scen) (t : List Entry) (x : Site) (h : List Event) (writes : Option ControlRecord) (ends : Option EndWhy) (made : ℕ) (i : Option Want) (f : Phase) (w : Want)
+due-place : (s : Scen) (t : List Entry) (x : Site) (h : List Event) (writes : Option ControlRecord) (ends : Option EndWhy) (made : ℕ)
+    (i : Option Want) (f : Phase) (w : Want)
     → Stage writes ends made i f → WantIn writes ends f w → IsNext (slice_get (acts_of writes ends) made) (act_of s t x h w)
 due-place s t x h (Some r) (Some reason) made i HasRead w at wants =
     at-due (acts_of (Some r) (Some reason)) made 0 (act_of s t x h w) at (ap (act_of s t x h) wants)

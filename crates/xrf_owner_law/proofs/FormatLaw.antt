@@ -250,7 +250,8 @@ read-format s t x v w epoch true is granted writes is_granted one met = met gran
 read-format s t x v w epoch false is granted writes is_granted one met =
     let p = settings s x in
     is-one (control t).format (one-or-two (control t).format (has_two s t) (formats s t is).format)
-    (foreign-one p.level (control t).format one (not-foreign p v.purpose v.number (control t) w v.known v.granted v.owner writes.did writes.suits is_granted granted))
+    (foreign-one p.level (control t).format one
+    (not-foreign p v.purpose v.number (control t) w v.known v.granted v.owner writes.did writes.suits is_granted granted))
 
 -- of the other job
 owner-runs : (c : ControlRecord) (k : ℕ → Bool) (y : Site) (n : ℕ) → c.owner ≡ Some (record { inc = n; site = y; state = Running }) → k n ≡ false
@@ -273,7 +274,8 @@ no-through p level q me c w known k y u true true did knows job granted owner ov
     (over-none p q me c w known k did knows (and_parts (changes c w) (is_two p.level) is).0))
 no-through p level q me c w known k y u false true did knows job granted owner over same there rule one is =
     absurd
-    (cc (sym one ∙ level-two level c p.site y u.number rule (job.stands.beside granted owner) there (ap is_two same ∙ (and_parts (changes c w) (is_two p.level) is).1)))
+    (cc (sym one ∙ level-two level c p.site y u.number rule (job.stands.beside granted owner) there
+    (ap is_two same ∙ (and_parts (changes c w) (is_two p.level) is).1)))
 
 -- a write of the other job leaves format 1 to a job of level 1
 other-met : (s : Scen) (t : List Entry) (x : Site) (v : View) (w : ControlRecord) (epoch : ℕ) (u : View) → IsRun s t
@@ -309,14 +311,16 @@ own-met s t x h (ControlRead held known) is here comes met = λ one granted over
     met one granted (ap (λ (f : Phase). is_over f (purpose h)) (read-phase (settings s x) h (history-at s t x h is here) comes))
 own-met s t x h Released is here comes met = λ one granted over.
     met one granted
-    (over-released (purpose h) (phase (settings s x) h) (after_release (settings s x) h) (releases-phase (settings s x) h (history-at s t x h is here) comes) (off-ends (settings s x) h) over)
+    (over-released (purpose h) (phase (settings s x) h) (after_release (settings s x) h)
+    (releases-phase (settings s x) h (history-at s t x h is here) comes) (off-ends (settings s x) h) over)
 own-met s t x h (ControlWritten w) is here comes met = λ one granted over.
     let p = settings s x in
     let job = job-at s t x h is here in
     let writes = writes-by s t x h w is here comes in
     let read = (write-phase p h w (history-at s t x h is here) comes).0 in
     own-format (control t) w p.level
-    (format-after p (purpose h) (number h) (control t) w (known_read h) writes.did (holds-at s t x is).rule (write-mine s t x (view p h) w (epoch_number h) writes job)) one
+    (format-after p (purpose h) (number h) (control t) w (known_read h) writes.did (holds-at s t x is).rule
+    (write-mine s t x (view p h) w (epoch_number h) writes job)) one
     ∙ read-format s t x (view p h) w (epoch_number h) (is_granted h) is refl writes job.stands.is_granted one
     (λ had. met one had (ap (λ (f : Phase). is_over f (purpose h)) read))
 own-met s t x h made is here comes met = quiet-met s (control t) x made h refl met
@@ -376,7 +380,8 @@ write-met s t x h w is here wants one =
     let read = (write-phase p h w (history-at s t x h is here) wants).0 in
     let met = subst (λ (job : Option (List Event)). IfSome job (Met s (control t) (confirmed t) x)) here (are-met s t is x) in
     own-format (control t) w p.level
-    (format-after p (purpose h) (number h) (control t) w (known_read h) writes.did (holds-at s t x is).rule (write-mine s t x (view p h) w (epoch_number h) writes job)) one
+    (format-after p (purpose h) (number h) (control t) w (known_read h) writes.did (holds-at s t x is).rule
+    (write-mine s t x (view p h) w (epoch_number h) writes job)) one
     ∙ read-format s t x (view p h) w (epoch_number h) (is_granted h) is refl writes job.stands.is_granted one
     (λ had. met one had (ap (λ (f : Phase). is_over f (purpose h)) read))
 
@@ -393,7 +398,8 @@ meets-act s t e x h act.CtlRead is who here acts one =
 meets-act s t e x h act.Look1 is who here acts one =
     let made = made-at s t e x h is (ap is_act acts) who here in
     met-by s t x h Outside is.0 here
-    (work-phase (settings s x) h (history-at s t x h is.0 here) (ap is_work (looks-want s t x h (next (settings s x) h) (made.made ∙ ap (λ a. Some a) acts)))) refl one
+    (work-phase (settings s x) h (history-at s t x h is.0 here)
+    (ap is_work (looks-want s t x h (next (settings s x) h) (made.made ∙ ap (λ a. Some a) acts)))) refl one
 meets-act s t e x h _ is who here acts one = tt
 
 -- each entry of a job of level 1 does

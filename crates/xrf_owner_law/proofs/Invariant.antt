@@ -52,7 +52,8 @@ same-both c c' k k' x own own' beside beside' r r' q q' cs ks owns besides rs qs
 -- what is handed as confirmed is confirmed
 pub knows-of : (t : List Entry) (c : ControlRecord) → Knows (confirmed t) (known_of t c) c
 knows-of t c =
-    record { owner = λ is. both-of (is_some c.owner) (confirmed t (inc_of_owner c.owner)) is; alt = λ is. both-of (is_some c.alt) (confirmed t (inc_of_alt c.alt)) is }
+    record { owner = λ is. both-of (is_some c.owner) (confirmed t (inc_of_owner c.owner)) is; alt = λ is. both-of (is_some c.alt)
+        (confirmed t (inc_of_alt c.alt)) is }
   where
     both-of : (a b : Bool) → (a && b) ≡ true → b ≡ true
     both-of true b is = is
@@ -113,7 +114,8 @@ made-after s t x h Reserved beside r q is comes given free both =
     reserve-keeps (control t) (confirmed t) x (view (settings s x) h) (purpose_now h) beside r q (reserve-phase (settings s x) h is comes) (free given) both
 made-after s t x h (ControlRead held known) beside r q is comes given free both =
     read-after (settings s x) t x h held known beside r q given.0 given.1
-    (read-keeps (control t) (confirmed t) x (view (settings s x) h) (known_of t (control t)) beside r q (read-phase (settings s x) h is comes) (knows-of t (control t)) both)
+    (read-keeps (control t) (confirmed t) x (view (settings s x) h) (known_of t (control t)) beside r q (read-phase (settings s x) h is comes)
+    (knows-of t (control t)) both)
 made-after s t x h (ControlWritten w) beside r q is comes given free both =
     let writes = write-phase (settings s x) h w is comes in
     write-keeps (settings s x) (control t) w (confirmed t) (view (settings s x) h) (epoch_number h) beside r q writes.0 writes.1
@@ -156,7 +158,8 @@ cut-record s t e x are move both = by move.record_after
         let wrote = write-phase (settings s x) h w is writes in
         subst (λ (c : ControlRecord). Both c (confirmed t) x None (view_at s t (other x)) false (holds_reserve t (other x))) (sym landed)
         (gone-keeps w (confirmed t) x (Some (written_view (view (settings s x) h) w)) (view_at s t (other x)) (holds_reserve t x) (holds_reserve t (other x))
-        (write-keeps (settings s x) (control t) w (confirmed t) (view (settings s x) h) (epoch_number h) (view_at s t (other x)) (holds_reserve t x) (holds_reserve t (other x)) wrote.0 wrote.1 (sound (settings s x) h is)
+        (write-keeps (settings s x) (control t) w (confirmed t) (view (settings s x) h) (epoch_number h) (view_at s t (other x)) (holds_reserve t x)
+        (holds_reserve t (other x)) wrote.0 wrote.1 (sound (settings s x) h is)
         (subst (λ (o : Option View). Both (control t) (confirmed t) x o (view_at s t (other x)) (holds_reserve t x) (holds_reserve t (other x))) here both)))
 
 -- a job that stops or ends keeps it

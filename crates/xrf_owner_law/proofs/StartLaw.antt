@@ -118,7 +118,8 @@ in-start p h why is rules starts_it =
     by parts.0 (starts p h is rules why parts.1).at
   where
     by : has_read_since_decision h ≡ true
-        → (Before (open_decision h) (last_decision h) (has_read_since_decision h) (phase p h) ⊎ Since (open_decision h) (has_read_since_decision h) (has_read h) (purpose h) why)
+        → (Before (open_decision h) (last_decision h) (has_read_since_decision h) (phase p h) ⊎ Since (open_decision h) (has_read_since_decision h)
+        (has_read h) (purpose h) why)
         → InStart h why
     by read (inl before) = absurd (cc (sym read ∙ before.unread))
     by read (inr since) = record { purpose = since.purpose; read = since.has_read read }

@@ -67,7 +67,8 @@ active-write p c w known q granted owner me epoch false is owns purposed makes =
     or-right owner (names_owner w (number_after granted me w))
     (ap (λ (b : Bool). names_owner w (number_after b me w)) is
     ∙
-    (own-active p me c w known (wrote p SignOnActive me epoch c w known (subst (λ (r : Purpose). record_by_purpose p r me epoch c known ≡ Some w) (purposed is) makes))).0)
+    (own-active p me c w known
+    (wrote p SignOnActive me epoch c w known (subst (λ (r : Purpose). record_by_purpose p r me epoch c known ≡ Some w) (purposed is) makes))).0)
 
 -- each event keeps it
 active-step : (p : Settings) (h : List Event) (e : Event) → IsHistory p h → Comes p h e → IsActive p h → IsActive p (e ∷ h)
@@ -183,7 +184,8 @@ own-ends s t x h (ControlWritten w) is here comes given ending =
           write-ends p (purpose h) (number h) (epoch_number h) (number_after (is_granted h) (number h) w) (control t) w (known_read h) (is_granted h)
           (is_owner h) wrote.made
           (holds-at s t x is).rule wrote.suits (write-mine s t x (view p h) w (epoch_number h) wrote job) owner
-          (sym (ap (λ (c : ControlRecord). is_some (end_next (end_by_purpose p (purpose h) (number_after (is_granted h) (number h) w) c (known_read h)))) read) ∙ ends);
+          (sym (ap (λ (c : ControlRecord). is_some
+          (end_next (end_by_purpose p (purpose h) (number_after (is_granted h) (number h) w) c (known_read h)))) read) ∙ ends);
       over = λ over. absurd (cc);
     }
 own-ends s t x h Released is here comes given ending =

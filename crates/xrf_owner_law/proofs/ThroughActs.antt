@@ -67,7 +67,8 @@ go-well s t x h true is here comes go =
     let now = subst (λ (job : Option (List Event)). IfSome job (λ g. Waits (control t) (confirmed t) x (wait_view p g))) here
     (are-waiting s t is x) waiting (ap (λ (f : Phase). is_gone f (purpose h)) at) in (
       lets-all (control t) (confirmed t) x (number h) t now.alt now.taking
-          (now.over (or-right (is_through_decision (open_decision h)) (is_held (phase p h) && is_go (purpose h)) (ap (λ (f : Phase). is_held f && is_go (purpose h)) at ∙ go))),
+          (now.over (or-right (is_through_decision (open_decision h)) (is_held (phase p h) && is_go (purpose h))
+          (ap (λ (f : Phase). is_held f && is_go (purpose h)) at ∙ go))),
       now.alt,
     )
 
@@ -172,7 +173,8 @@ pub through-gives : (s : Scen) (t : List Entry) (x : Site) (h : List Event) → 
     → purpose h ≡ GoThrough → lets_go (record_read h) (number h) (known_read h) ≡ true
 through-gives s t x h is here at purposed =
     (goes-well x (purpose h) (record_read h) (number h) (known_read h) purposed
-    (induct ReadWell (λ p. λ let_go at. absurd (cc)) (λ p. λ let_go at. absurd (cc)) well-step (settings s x) h (history-at s t x h is here) (lets-at s t x h is here) at)).0
+    (induct ReadWell (λ p. λ let_go at. absurd (cc)) (λ p. λ let_go at. absurd (cc)) well-step (settings s x) h (history-at s t x h is here)
+    (lets-at s t x h is here) at)).0
 
 -- so there is a record to write
 let-some : (c : ControlRecord) (n : ℕ) (known : Known) (level : Level) → lets_go c n known ≡ true → is_some (let_through c n known level) ≡ true

@@ -93,7 +93,8 @@ comes-through : (c : ControlRecord) (h : List Event) (x : Site) → is_granted h
     → c.alt ≡ Some (record { inc = number h; site = x }) → is_some c.taking ≡ true → TakingFits c.last c.alt c.taking → may_come c h ≡ true
 comes-through c h x granted waiting through alt taken fits =
     ap
-    (λ (g : Bool). elim g [ false ↦ starts_active h | true ↦ is_waiting h && is_through_decision (last_decision h) && is_alt c (number h) && has_taking c.taking (number h) ]) granted
+    (λ (g : Bool). elim g
+    [ false ↦ starts_active h | true ↦ is_waiting h && is_through_decision (last_decision h) && is_alt c (number h) && has_taking c.taking (number h) ]) granted
     ∙ all-four (is_waiting h) (is_through_decision (last_decision h)) (is_alt c (number h)) (has_taking c.taking (number h)) waiting through
     (alt-is c x (number h) alt)
     (taking-is c x (number h) alt taken fits)
@@ -102,7 +103,9 @@ comes-through c h x granted waiting through alt taken fits =
 comes-active : (c : ControlRecord) (h : List Event) → is_granted h ≡ false → starts_active h ≡ true → may_come c h ≡ true
 comes-active c h fresh active =
     ap
-    (λ (g : Bool). elim g [ false ↦ starts_active h | true ↦ is_waiting h && is_through_decision (last_decision h) && is_alt c (number h) && has_taking c.taking (number h) ]) fresh ∙ active
+    (λ (g : Bool). elim g
+    [ false ↦ starts_active h | true ↦ is_waiting h && is_through_decision (last_decision h) && is_alt c (number h) && has_taking c.taking
+        (number h) ]) fresh ∙ active
 
 -- an owner that is named with the number of the entry
 named : (w : ControlRecord) (x : Site) (n m : ℕ) → w.owner ≡ Some (record { inc = n; site = x; state = Running }) → m ≡ n

@@ -112,7 +112,8 @@ release-waits s t x h is here comes waits =
     own-waits (control t) (confirmed t) x (wait_view p h) (wait_view p (Released ∷ h)) refl refl
     (leave-ends p (phase p h) (purpose h) (number h) (record_read h) (known_read h) may)
     (λ looks. absurd (rounds-after p h Released refl (looking-rounds (inside p (Released ∷ h)) looks)))
-    (λ due. absurd (none-decided p h (is_held (released (after_release p h)) && is_go (purpose h)) path (release-holds (phase p h) may) (released-free (after_release p h) (is_go (purpose h))) due))
+    (λ due. absurd (none-decided p h (is_held (released (after_release p h)) && is_go (purpose h)) path (release-holds (phase p h) may)
+    (released-free (after_release p h) (is_go (purpose h))) due))
     waits
 
 -- who holds no number has started no takeover
@@ -196,7 +197,8 @@ decide-waits s t x h known n decision is here comes made holds waits = λ waitin
           let knows = subst (λ (n : Known). Knows (confirmed t) n (record_seen h)) (sym holds) (knows-of t (record_seen h)) in
           seen-over (control t) (record_seen h) (confirmed t) known
           (now.saw (rounds-looking (inside p h) want.Decide (inside-is p h want.Decide comes refl) refl)) knows.owner
-          (decided-over p h known n decision made (or-free (is_through_decision (Some decision)) (is_held (phase p h)) (is_go (purpose h)) (ap is_held outside) due));
+          (decided-over p h known n decision made
+          (or-free (is_through_decision (Some decision)) (is_held (phase p h)) (is_go (purpose h)) (ap is_held outside) due));
     }
 
 -- each event of a job keeps what holds of it while it waits

@@ -168,7 +168,8 @@ pub written-waits : (p : Settings) (q : Purpose) (me : ℕ) (c w : ControlRecord
     → waits_after owner started (number_after granted me w) w ≡ true → is_gone HasWritten q ≡ false → Named w p.site (number_after granted me w)
 written-waits p SignOnActive me c w known granted owner started did suits fresh start beside waits here =
     absurd (not-owner owner started (number_after granted me w) w
-    (or-right owner (names_owner w (number_after granted me w)) (ap (λ (b : Bool). names_owner w (if b then me else w.last)) suits ∙ (own-active p me c w known did).0)) waits)
+    (or-right owner (names_owner w (number_after granted me w))
+    (ap (λ (b : Bool). names_owner w (if b then me else w.last)) suits ∙ (own-active p me c w known did).0)) waits)
 written-waits p SignOnStandby me c w known granted owner started did suits fresh start beside waits here =
     absurd (not-standby p me (number_after granted me w) c w known owner started did (fresh suits) waits)
 written-waits p (SignOff state) me c w known granted owner started did suits fresh start beside waits here =

@@ -102,7 +102,8 @@ move-of F kept s t e is are (Gone x move) =
     (moved F s t e (other x) (control (e ∷ t)) (confirmed t) (hist s t (other x)) move.beside refl move.confirmed_after (beside-gone F kept s t e x is move are))
 move-of F kept s t e is are (Started x made move) =
     each (λ y. OfJob F s (control (e ∷ t)) (confirmed (e ∷ t)) y (hist s (e ∷ t) y)) x
-    (moved F s t e x (control t) (confirmed t) (Some (made ∷ [])) move.after move.record_after move.confirmed_after (kept.born s (control t) (confirmed t) x made move.started))
+    (moved F s t e x (control t) (confirmed t) (Some (made ∷ [])) move.after move.record_after move.confirmed_after
+    (kept.born s (control t) (confirmed t) x made move.started))
     (moved F s t e (other x) (control t) (confirmed t) (hist s t (other x)) move.beside move.record_after move.confirmed_after (are (other x)))
 move-of F kept s t e is are (Tick move) =
     λ y. moved F s t e y (control t) (confirmed t) (option_map (λ h. Ticked ∷ h) (hist s t y)) (move.after y) move.record_after move.confirmed_after

@@ -217,7 +217,8 @@ job-steps s t e J (OfStart x a start none is) =
     (λ moves. entry-jobs s t x 0 a land.Full J (start-done s t x (hist s t x) J a start (moves.starts x a start refl)) (λ job. start-other a job start) moves.others)
 job-steps s t e J (OfChoice x h a there reach is) =
     subst (λ (one : Entry). JobCases s t one J → (z : Site) → OfJob (hist s (one ∷ t) z) (J z)) is
-    (λ moves. entry-jobs s t x (inc_at a (hist s t x)) a land.Full J (own-after s t x h a land.Full J there (reach-done s t x h J a reach (moves.reaches x h a there reach refl)))
+    (λ moves. entry-jobs s t x (inc_at a (hist s t x)) a land.Full J
+    (own-after s t x h a land.Full J there (reach-done s t x h J a reach (moves.reaches x h a there reach refl)))
     (λ job. reach-other s x h a job reach) moves.others)
 job-steps s t e J (OfAct x h a l there wants can is) =
     subst (λ (one : Entry). JobCases s t one J → (z : Site) → OfJob (hist s (one ∷ t) z) (J z)) is (made-jobs s t x h a l J there wants can)

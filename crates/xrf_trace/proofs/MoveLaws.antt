@@ -102,7 +102,8 @@ item-if s t x P holds = by (nat_lt (items_taken t x) (length (work s x)))
 -- a job stops or ends
 pub gone-move : (s : Scen) (t : List Entry) (x : Site) (a : Act) (l : Land) → after_own s t x (now t) a l (hist s t x) ≡ None
     → after_other a (hist s t (other x)) ≡ hist s t (other x)
-    → (control_after a l (control t) ≡ control t) ⊎ ((h : List Event) × (w : ControlRecord) × (hist s t x ≡ Some h) × (next (settings s x) h ≡ want.CtlWrite w) × (control_after a l (control t) ≡ w))
+    → (control_after a l (control t) ≡ control t) ⊎
+    ((h : List Event) × (w : ControlRecord) × (hist s t x ≡ Some h) × (next (settings s x) h ≡ want.CtlWrite w) × (control_after a l (control t) ≡ w))
     → ((n : ℕ) → confirms a n ≡ false)
     → ((r : Bool) → (not (is_stop l) && holds_after a r) ≡ false)
     → Move s t (entry_at s t x a l)

@@ -168,7 +168,8 @@ fail-met s t x landing.Nothing ok =
     next-met s t x (land.Fail landing.Nothing) may_fail (unless-met (is_next may_fail (next_act s t x)) NotEnabled ok) (λ a is can. (can, tt))
 fail-met s t x landing.All ok =
     next-met s t x (land.Fail landing.All) may_fail
-    (and_parts (is_next may_fail (next_act s t x)) (not (is_next is_failing_read (next_act s t x))) (unless-met (is_next may_fail (next_act s t x) && not (is_next is_failing_read (next_act s t x))) NotEnabled ok)).0
+    (and_parts (is_next may_fail (next_act s t x)) (not (is_next is_failing_read (next_act s t x)))
+    (unless-met (is_next may_fail (next_act s t x) && not (is_next is_failing_read (next_act s t x))) NotEnabled ok)).0
     (λ a is can. (can, tt))
 fail-met s t x (landing.Torn bytes) ok =
     next-met s t x (land.Fail (landing.Torn bytes)) (λ one. is_some (torn_size one)) (torn-met bytes (next_act s t x) ok)

@@ -85,8 +85,13 @@ pub record Going (h : List Event) : Type 0 where
 -- a RESERVE to go through is of an alternate that does not leave
 pub going-now : (h : List Event) → purpose_now h ≡ GoThrough → Going h
 going-now h is =
-    record { granted = grind (arith, common_steps); no_owner = grind (arith, common_steps); stays = grind (arith, common_steps); no_start = grind
-        (arith, common_steps) }
+    record {
+      granted = grind (arith, common_steps);
+      no_owner = grind (arith, common_steps);
+      stays = grind (arith, common_steps);
+      no_start = grind
+          (arith, common_steps);
+    }
 
 -- a RESERVE to go through follows DECIDE THROUGH
 pub going-due : (p : Settings) (h : List Event) → IsHistory p h → next p h ≡ want.Reserve → purpose_now h ≡ GoThrough → through_due h ≡ true

@@ -15,11 +15,11 @@ use Rattle.xrf_history.proofs.Boundary.{IsCalm, Cases, boundary-by, IsPlain, cal
 use Rattle.xrf_history.specs.declared.want.Want.{Want}
 use Rattle.xrf_history.specs.declared.settings.Settings.{Settings}
 use Rattle.xrf_history.specs.Rows.{log_write, boundary, rounds, signal_of}
-use Rattle.xrf_history.specs.Next.{roll_next, after_item, after_file_read, after_undo, if_working, after_log_open, after_log_look, after_log_close, inside, record_at_hand, or_boundary, next, write_next, end_next, after_message_read, gate_of, after_message_close, message_at_hand}
+use Rattle.xrf_history.specs.Next.{roll_next, after_item, after_file_read, after_undo, if_working, after_log_open, after_log_look, after_log_close, inside, record_at_hand, or_boundary, next, write_next, end_next, after_message_read, gate_of, after_message_close, message_at_hand, end_for}
 use Rattle.xrf_history.specs.Working.{rolled_left, last_plan, next_keypoint}
 use Rattle.xrf_history.specs.Holding.{is_restarted, number}
 use Rattle.xrf_history.specs.Notices.{epoch_number}
-use Rattle.xrf_history.specs.Reserving.{purpose, record_by_purpose, end_by_purpose, known_read, record_read}
+use Rattle.xrf_history.specs.Reserving.{purpose, record_by_purpose}
 use Rattle.xrf_history.specs.declared.want.EndWhy.{EndWhy}
 use Rattle.xrf_history.specs.declared.want.Want.TheVariants as want
 
@@ -154,7 +154,7 @@ control-next P p h held known writes releases = by (record_by_purpose p (purpose
 -- after a RELEASE comes ENDED, or an act at a boundary
 pub released-next : (P : Want → Type 0) (p : Settings) (h : List Event) → ((why : EndWhy) → P (want.Ended why)) → Cases p (Released ∷ h) P
     → P (next p (Released ∷ h))
-released-next P p h ends cases = by (end_by_purpose p (purpose h) (number h) (record_read h) (known_read h))
+released-next P p h ends cases = by (end_for p h)
   where
     by : (o : Option EndWhy) → P (or_boundary p (Released ∷ h) (end_next o))
     by None = boundary-by P p (Released ∷ h) cases
@@ -226,7 +226,7 @@ inside-inner p (StartedStandby ∷ h) = tt
 inside-inner p (Reserved ∷ h) = tt
 inside-inner p (ControlRead held known ∷ h) = control-inner (record_by_purpose p (purpose h) (number h) (epoch_number h) held known)
 inside-inner p (ControlWritten written ∷ h) = tt
-inside-inner p (Released ∷ h) = end-inner (end_by_purpose p (purpose h) (number h) (record_read h) (known_read h))
+inside-inner p (Released ∷ h) = end-inner (end_for p h)
 inside-inner p (Signalled1 signal ∷ h) = tt
 inside-inner p (Signalled2 signal ∷ h) = tt
 inside-inner p (Looked1 held signal ∷ h) = tt

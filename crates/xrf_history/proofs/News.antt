@@ -129,8 +129,11 @@ drop-now : (h : List Event) → is_drop (purpose_now h) ≡ true → is_owner h 
 drop-now h is = by (sign_off_due h) (is_granted h) (is_owner h) (starts_active h) (leaves h) (start_due h) is
   where
     by : (o : Option OwnerState) (g w a : Bool) (l : Option EndWhy) (start : Option Cause)
-        → is_drop (elim g [ false ↦ elim a [ true ↦ SignOnActive | false ↦ SignOnStandby ] | true ↦ elim w
-        [ true ↦ purpose_of_owner o | false ↦ purpose_of_alternate l start ] ]) ≡ true
+        → is_drop (elim g [
+          | false ↦ elim a [ true ↦ SignOnActive | false ↦ SignOnStandby ]
+          | true ↦ elim w
+              [ true ↦ purpose_of_owner o | false ↦ purpose_of_alternate l start ]
+        ]) ≡ true
         → w ≡ true
     by o g true a l start is = refl
     by o false false true l start is = absurd (cc)

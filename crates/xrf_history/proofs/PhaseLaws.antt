@@ -8,10 +8,10 @@ use Rattle.xrf_history.specs.Events.{Event, Abended, Commanded, ControlRead, Con
 use Rattle.xrf_history.specs.declared.settings.Settings.{Settings}
 use Rattle.xrf_history.specs.Rows.{alternate_next, owner_works, owner_row, boundary}
 use Rattle.xrf_history.proofs.Phases.{is_outside, is_inner_of, is_worked, is_work, is_end_of, Fresh, HasRead, HasWritten, Held, NextIn, Outside, Over, Phase, phase, passes, released, is_inner, is_end, IsWrite, may_release, may_reserve}
-use Rattle.xrf_history.specs.Holding.{is_owner, number}
-use Rattle.xrf_history.specs.Notices.{notice, epoch_number}
-use Rattle.xrf_history.specs.Reserving.{sign_off_due, known_read, purpose, record_by_purpose, record_read}
-use Rattle.xrf_history.specs.Next.{inside, write_next, next, or_boundary, after_control_read, after_release}
+use Rattle.xrf_history.specs.Holding.{is_owner}
+use Rattle.xrf_history.specs.Notices.{notice}
+use Rattle.xrf_history.specs.Reserving.{sign_off_due}
+use Rattle.xrf_history.specs.Next.{inside, write_next, next, or_boundary, after_control_read, after_release, record_for}
 use Rattle.xrf_history.specs.declared.want.Want.{Want}
 use Rattle.xrf_history.specs.Answers.{may_fail}
 use Rattle.xrf_history.proofs.Histories.{Comes, is_started, IsHistory}
@@ -83,8 +83,7 @@ works-outside p h Outside at work = refl
 works-outside p h Held at work = absurd (cc (sym (ap is_work (next-inside p h want.CtlRead at)) ∙ work))
 works-outside p h HasRead at work =
     absurd
-    (read-works p h (record_by_purpose p (purpose h) (number h) (epoch_number h) (record_read h) (known_read h))
-    (sym (ap is_work (next-inside p h (after_control_read p h) at)) ∙ work))
+    (read-works p h (record_for p h) (sym (ap is_work (next-inside p h (after_control_read p h) at)) ∙ work))
 works-outside p h HasWritten at work = absurd (cc (sym (ap is_work (next-inside p h want.Release at)) ∙ work))
 works-outside p h Over at work = absurd (ends-works p h (inside p h) at work)
 
@@ -211,8 +210,7 @@ read-held p h Outside at is = absurd (cc (or_boundary-outside p h (inside p h) a
 read-held p h Held at is = refl
 read-held p h HasRead at is =
     absurd
-    (write-no-read (record_by_purpose p (purpose h) (number h) (epoch_number h) (record_read h) (known_read h))
-    (sym (next-inside p h (after_control_read p h) at) ∙ is))
+    (write-no-read (record_for p h) (sym (next-inside p h (after_control_read p h) at) ∙ is))
 read-held p h HasWritten at is = absurd (cc (next-inside p h want.Release at))
 read-held p h Over at is = absurd (ends-outside p h (inside p h) at (ap is_end is))
 
@@ -222,8 +220,7 @@ write-read p h Fresh w at is = absurd (cc (next-inside p h want.Reserve at))
 write-read p h Outside w at is = absurd (cc (or_boundary-outside p h (inside p h) at))
 write-read p h Held w at is = absurd (cc (next-inside p h want.CtlRead at))
 write-read p h HasRead w at is =
-    (refl, write-or-release (record_by_purpose p (purpose h) (number h) (epoch_number h) (record_read h) (known_read h)) w
-    (sym (next-inside p h (after_control_read p h) at) ∙ is))
+    (refl, write-or-release (record_for p h) w (sym (next-inside p h (after_control_read p h) at) ∙ is))
 write-read p h HasWritten w at is = absurd (cc (next-inside p h want.Release at))
 write-read p h Over w at is = absurd (ends-outside p h (inside p h) at (ap is_end is))
 
@@ -248,8 +245,7 @@ reserves-phase p h Outside at is = refl
 reserves-phase p h Held at is = absurd (cc (next-inside p h want.CtlRead at))
 reserves-phase p h HasRead at is =
     absurd
-    (reserve-read (record_by_purpose p (purpose h) (number h) (epoch_number h) (record_read h) (known_read h))
-    (sym (next-inside p h (after_control_read p h) at) ∙ is))
+    (reserve-read (record_for p h) (sym (next-inside p h (after_control_read p h) at) ∙ is))
 reserves-phase p h HasWritten at is = absurd (cc (next-inside p h want.Release at))
 reserves-phase p h Over at is = absurd (ends-outside p h (inside p h) at (ap is_end is))
 

@@ -4,10 +4,7 @@ use Rattle.xrf_ctl.specs.Control.{ControlRecord}
 use Rattle.xrf_history.specs.declared.want.Want.{Want}
 use Rattle.xrf_history.specs.Events.{ControlRead, ControlWritten, Event, Released, Reserved, StartedActive, StartedStandby, Abended, Commanded, Exited, Replied, Ticked}
 use Rattle.xrf_history.specs.declared.settings.Settings.{Settings}
-use Rattle.xrf_history.specs.Next.{after_release, after_control_read, inside}
-use Rattle.xrf_history.specs.Notices.{epoch_number}
-use Rattle.xrf_history.specs.Reserving.{known_read, purpose, record_by_purpose, record_read}
-use Rattle.xrf_history.specs.Holding.{number}
+use Rattle.xrf_history.specs.Next.{after_release, after_control_read, inside, record_for}
 use Rattle.xrf_history.specs.declared.want.Want.TheVariants as want
 
 -- From START to the first RESERVE; outside the reserve; from RESERVE, from CTLREAD and from CTLWRITE on; and
@@ -124,7 +121,7 @@ passes _ = false
 
 -- a CTLWRITE comes next: it has read, and the record is the one of its purpose
 abbrev pub IsWrite : Settings → List Event → ControlRecord → Phase → Type 0
-IsWrite p h w f = (f ≡ HasRead) × (record_by_purpose p (purpose h) (number h) (epoch_number h) (record_read h) (known_read h) ≡ Some w)
+IsWrite p h w f = (f ≡ HasRead) × (record_for p h ≡ Some w)
 
 -- the phases in which RELEASE may come next
 abbrev pub may_release : Phase → Bool

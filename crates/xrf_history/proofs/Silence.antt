@@ -1,12 +1,11 @@
 -- An owner that has seen a taking makes no update after it.
-use Rattle.std.proofs.Common.{Bool, true, None, Option, Some, false, is_some, ◌≡◌, ◌⊎◌, List, ap, arith, ◌∙◌, ℕ, subst, inl, inr, refl, sym, ◌∷◌, ◌||◌, ◌&&◌, if◌then◌else◌, []}
+use Rattle.std.proofs.Common.{Bool, true, None, Option, Some, false, is_some, ◌≡◌, ◌⊎◌, List, ap, arith, ◌∙◌, ℕ, subst, inl, inr, refl, sym, ◌∷◌, ◌||◌, ◌&&◌}
 use Rattle.std.proofs.lemmas.Grind.{common_steps}
 use Rattle.std.proofs.lemmas.Bool.{and_parts}
 use Rattle.xrf_ctl.specs.Control.{ControlRecord}
 use Rattle.xrf_ctl.specs.declared.parts.OwnerState.{OwnerState}
 use Rattle.xrf_ctl.specs.declared.parts.OwnerState.TheVariants.{OffAbend}
 use Rattle.xrf_ctl.specs.Signal.{SignalRecord}
-use Rattle.xrf_ctl.specs.declared.parts.Cause.{Cause}
 use Rattle.xrf_cavm.specs.declared.known.Known.{Known}
 use Rattle.xrf_cavm.specs.declared.decisions.Decided.{Decided}
 use Rattle.xrf_cavm.specs.Record.{is_owner as names_owner}
@@ -17,10 +16,10 @@ use Rattle.xrf_exit.specs.declared.ExitAnswer.TheVariants as exit
 use Rattle.xrf_history.specs.declared.want.Want.{Want}
 use Rattle.xrf_history.proofs.OwnersWork.{is_owner_act}
 use Rattle.xrf_history.proofs.Phases.{HasRead, Phase, phase, NextIn, is_outside, before_write}
-use Rattle.xrf_history.specs.Reserving.{Purpose, purpose, record_read, sign_off_due, record_by_purpose, known_read, or_else, purpose_of_owner, SignOnActive, SignOnStandby, leaves, purpose_now, purpose_of_alternate, start_due, fails_owner, is_on_message, state_by_item, DropAlternate, SignOff}
+use Rattle.xrf_history.specs.Reserving.{Purpose, purpose, record_read, sign_off_due, record_by_purpose, known_read, or_else, SignOnActive, SignOnStandby, DropAlternate, SignOff}
 use Rattle.xrf_history.specs.Notices.{is_drop, notice, epoch_number, notice_in}
-use Rattle.xrf_history.specs.Holding.{is_owner, number, is_granted, starts_active}
-use Rattle.xrf_history.specs.Events.{Event, Exited, Looked2, DecisionMade, Released, Looked1, ControlRead, Abended, ActFailed, Given, Reserved, BlockRead, Commanded, ControlWritten, EndedAs, FirstBlockRead, LineIssued, Replied, Signalled1, Signalled2, StartedActive, StartedStandby, Ticked}
+use Rattle.xrf_history.specs.Holding.{is_owner, number, is_granted}
+use Rattle.xrf_history.specs.Events.{Event, Exited, Looked2, DecisionMade, Released, Looked1, ControlRead, Abended, ActFailed, Reserved, BlockRead, Commanded, ControlWritten, EndedAs, FirstBlockRead, LineIssued, Replied, Signalled1, Signalled2, StartedActive, StartedStandby, Ticked}
 use Rattle.xrf_history.specs.declared.settings.Settings.{Settings}
 use Rattle.xrf_history.specs.Next.{inside, next, or_boundary, write_next, after_control_read, after_release}
 use Rattle.xrf_history.specs.Looking.{record_seen}
@@ -32,12 +31,9 @@ use Rattle.xrf_history.specs.Accepting.{exit_allowed}
 use Rattle.xrf_history.proofs.Rounds.{is_rounds, no-rounds}
 use Rattle.xrf_history.specs.Deciding.{cause}
 use Rattle.xrf_history.proofs.Purposes.{is_sign_off, Suits, suited}
-use Rattle.xrf_history.specs.declared.want.EndWhy.{EndWhy}
 use Rattle.xrf_history.proofs.Holding.{owner-granted}
 use Rattle.xrf_history.specs.Answers.{may_fail}
 use Rattle.xrf_history.specs.declared.want.Want.TheVariants as want
-use Rattle.xrf_history.proofs.SigningOff.{due-now}
-use Rattle.xrf_history.proofs.Tests.{or_else-some}
 use Rattle.xrf_history.proofs.SigningOff.{purpose-due}
 use Rattle.xrf_history.proofs.Tests.{or-left}
 
@@ -238,8 +234,11 @@ look-taking p h w is comes looking silenced off =
     by (inr (inl here)) = here.1
     by (inr (inr dropping)) =
         absurd
-        (cc (sym (next-inside p h (after_control_read p h) (subst (NextIn p h) dropping.0 (phase-next p h is)) ∙ dropping-writes p (purpose h)
-        (number h) (epoch_number h) (record_read h) (known_read h) dropping.1 dropping.2) ∙ comes, looking))
+        (cc (
+          sym (next-inside p h (after_control_read p h) (subst (NextIn p h) dropping.0 (phase-next p h is)) ∙ dropping-writes p (purpose h)
+              (number h) (epoch_number h) (record_read h) (known_read h) dropping.1 dropping.2) ∙ comes,
+          looking,
+        ))
 
 -- after a LOOK2
 looked-due : (p : Settings) (h : List Event) (signal : Option SignalRecord) (n : ℕ) → IsHistory p h → next p h ≡ want.Look2 → IsSilenced p h

@@ -10,7 +10,7 @@ use Rattle.xrf_history.specs.Holding.{number, is_granted, is_owner}
 use Rattle.xrf_history.specs.declared.want.EndWhy.{EndWhy}
 use Rattle.xrf_history.proofs.Phases.{Fresh, HasRead, HasWritten, Held, Outside, Over, Phase, phase, is_work, released, may_release, NextIn, before_write, is_end_of}
 use Rattle.xrf_history.specs.declared.want.Want.{Want}
-use Rattle.xrf_history.specs.Next.{end_next, inside, next, after_control_read, write_next, or_boundary}
+use Rattle.xrf_history.specs.Next.{end_next, inside, next, after_control_read, write_next, or_boundary, record_for}
 use Rattle.xrf_history.specs.Progress.{has_read, made_since_read}
 use Rattle.xrf_history.specs.Notices.{is_drop, epoch_number}
 use Rattle.xrf_history.proofs.Histories.{IsHistory, Comes, induct}
@@ -90,8 +90,7 @@ pub read-none : (p : Settings) (h : List Event) → IsHistory p h → next p h �
     → to_write p h ≡ None
 read-none p h is comes no_drop at =
     sym (same-epoch p (purpose h) (number h) (epoch_number h) (record_read h) (known_read h) no_drop)
-    ∙ releases-none (record_by_purpose p (purpose h) (number h) (epoch_number h) (record_read h) (known_read h))
-    (sym (next-inside p h (after_control_read p h) (subst (NextIn p h) at (phase-next p h is))) ∙ comes)
+    ∙ releases-none (record_for p h) (sym (next-inside p h (after_control_read p h) (subst (NextIn p h) at (phase-next p h is))) ∙ comes)
 
 -- the first of two tests
 no-drop : (drop read : Bool) → (not drop && read) ≡ true → drop ≡ false

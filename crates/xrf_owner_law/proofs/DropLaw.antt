@@ -6,14 +6,14 @@ use Rattle.xrf_ctl.specs.Control.{ControlRecord}
 use Rattle.xrf_cavm.specs.declared.known.Known.{Known}
 use Rattle.xrf_cavm.specs.Record.{is_alt}
 use Rattle.xrf_history.proofs.Phases.{HasWritten, phase, released, has_reserve, HasRead, NextIn, Phase, may_release}
-use Rattle.xrf_history.specs.Notices.{is_drop, drop_is_made, epoch, epoch_number, number_or_none}
+use Rattle.xrf_history.specs.Notices.{is_drop, drop_is_made, epoch, number_or_none}
 use Rattle.xrf_history.specs.Reserving.{purpose, Purpose, known_read, record_by_purpose, record_read}
 use Rattle.xrf_history.specs.declared.settings.Settings.{Settings}
 use Rattle.xrf_history.proofs.Writes.{Wrote}
 use Rattle.xrf_history.specs.declared.want.Want.{Want}
 use Rattle.xrf_history.proofs.Histories.{Comes, is_started}
 use Rattle.xrf_history.specs.Events.{ControlRead, ControlWritten, Event, Released, Reserved, StartedActive, StartedStandby}
-use Rattle.xrf_history.specs.Next.{after_release, after_control_read, next}
+use Rattle.xrf_history.specs.Next.{after_release, after_control_read, next, record_for}
 use Rattle.xrf_history.specs.Holding.{number}
 use Rattle.xrf_history.proofs.PhaseLaws.{write-phase, next-inside, phase-next, releases-none, releases-phase}
 use Rattle.xrf_history.specs.declared.want.Want.TheVariants as want
@@ -91,7 +91,7 @@ release-drops : (s : Scen) (t : List Entry) (x : Site) (h : List Event) (n : ℕ
     → next (settings s x) h ≡ want.Release → drop_is_made h ≡ true → is_alt (control t) n ≡ true → epoch h ≡ Some n → ⊥
 release-drops s t x h n HasRead is here at may releases made alt of_epoch =
     let p = settings s x in
-    let none = releases-none (record_by_purpose p (purpose h) (number h) (epoch_number h) (record_read h) (known_read h))
+    let none = releases-none (record_for p h)
     (sym (next-inside p h (after_control_read p h) (subst (NextIn p h) at (phase-next p h (history-at s t x h is here)))) ∙ releases) in
     drop-writes p (purpose h) (number h) n (record_read h) (known_read h) made
     (sym (ap (λ (o : Option ℕ). record_by_purpose p (purpose h) (number h) (number_or_none o) (record_read h) (known_read h)) of_epoch) ∙ none)

@@ -52,8 +52,11 @@ same-both c c' k k' x own own' beside beside' r r' q q' cs ks owns besides rs qs
 -- what is handed as confirmed is confirmed
 pub knows-of : (t : List Entry) (c : ControlRecord) → Knows (confirmed t) (known_of t c) c
 knows-of t c =
-    record { owner = λ is. both-of (is_some c.owner) (confirmed t (inc_of_owner c.owner)) is; alt = λ is. both-of (is_some c.alt)
-        (confirmed t (inc_of_alt c.alt)) is }
+    record {
+      owner = λ is. both-of (is_some c.owner) (confirmed t (inc_of_owner c.owner)) is;
+      alt = λ is. both-of (is_some c.alt)
+          (confirmed t (inc_of_alt c.alt)) is;
+    }
   where
     both-of : (a b : Bool) → (a && b) ≡ true → b ≡ true
     both-of true b is = is

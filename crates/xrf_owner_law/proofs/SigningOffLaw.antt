@@ -18,7 +18,7 @@ use Rattle.xrf_history.proofs.SigningOff.{IsOffFor, due-stays, purpose-due, purp
 use Rattle.xrf_history.proofs.Writes.{Wrote}
 use Rattle.xrf_history.specs.Notices.{epoch_number}
 use Rattle.xrf_history.specs.Holding.{number, is_granted, is_owner}
-use Rattle.xrf_history.specs.Next.{after_control_read, next, after_release}
+use Rattle.xrf_history.specs.Next.{after_control_read, next, after_release, record_for}
 use Rattle.xrf_history.proofs.PhaseLaws.{next-inside, phase-next, releases-none, releases-phase, write-phase}
 use Rattle.xrf_history.proofs.Histories.{Comes, is_started}
 use Rattle.xrf_history.proofs.Tests.{or-right}
@@ -102,7 +102,7 @@ release-signs : (s : Scen) (t : List Entry) (x : Site) (h : List Event) (f : Pha
 release-signs s t x h HasRead is here at may releases signing off =
     let p = settings s x in
     absurd (gives-off s t x h (purpose h) is here at refl off
-    (releases-none (record_by_purpose p (purpose h) (number h) (epoch_number h) (record_read h) (known_read h))
+    (releases-none (record_for p h)
     (sym (next-inside p h (after_control_read p h) (subst (NextIn p h) at (phase-next p h (history-at s t x h is here)))) ∙ releases)))
 release-signs s t x h HasWritten is here at may releases signing off = signing.written at off
 release-signs s t x h _ is here at may releases signing off = absurd (cc)

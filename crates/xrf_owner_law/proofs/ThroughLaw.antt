@@ -103,9 +103,11 @@ comes-through c h x granted waiting through alt taken fits =
 comes-active : (c : ControlRecord) (h : List Event) → is_granted h ≡ false → starts_active h ≡ true → may_come c h ≡ true
 comes-active c h fresh active =
     ap
-    (λ (g : Bool). elim g
-    [ false ↦ starts_active h | true ↦ is_waiting h && is_through_decision (last_decision h) && is_alt c (number h) && has_taking c.taking
-        (number h) ]) fresh ∙ active
+    (λ (g : Bool). elim g [
+      | false ↦ starts_active h
+      | true ↦ is_waiting h && is_through_decision (last_decision h) && is_alt c (number h) && has_taking c.taking
+          (number h)
+    ]) fresh ∙ active
 
 -- an owner that is named with the number of the entry
 named : (w : ControlRecord) (x : Site) (n m : ℕ) → w.owner ≡ Some (record { inc = n; site = x; state = Running }) → m ≡ n

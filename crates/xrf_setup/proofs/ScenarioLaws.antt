@@ -1,5 +1,5 @@
 -- What a scenario keeps of its data sets, its first records and its work.
-use Rattle.std.proofs.Common.{◌≡◌, ◌+◌, ℕ, zero, suc, List, [], ◌∷◌, IfSome, slice_get, arith}
+use Rattle.std.proofs.Common.{◌+◌, ℕ, zero, suc, List, [], ◌∷◌, IfSome, slice_get}
 use Rattle.std.specs.List.{AllByRecursion}
 use Rattle.xrf_base.specs.Ranges.{AreLimits}
 use Rattle.xrf_base.specs.Values.{IsValue}

@@ -47,9 +47,9 @@ def used(text, beginnings):
         kept = [name for name in names[1].split(", ") if name in words] if names else []
         if (alias and alias[1] in paths) or kept:
             lines.append(line if alias else line[: names.start()] + "{" + ", ".join(kept) + "}")
-    for file in sorted({beginning.file for beginning in beginnings}):
+    for crate, file in sorted({(beginning.crate, beginning.file) for beginning in beginnings}):
         names = [name for b in reversed(beginnings) if b.file == file for name in (b.name, f"to_{b.name}")]
         kept = [name for name in names if name in words]
         if kept:
-            lines.append(f"xrf_examples.specs.{file}.{{{', '.join(kept)}}}")
+            lines.append(f"{crate}.specs.{file}.{{{', '.join(kept)}}}")
     return "\n".join(f"use Rattle.{line}" for line in lines)

@@ -1,8 +1,8 @@
 #!/usr/bin/env python3
-"""Turns the documents of tests/runs/ into the worked runs of xrf_examples.
+"""Turns the documents of tests/runs/ into the worked runs of xrf_examples, and the long ones into those of xrf_long_runs.
 
 usage: worked_run.py NAME        the spec file of the run of tests/runs/NAME
-       worked_run.py --write     writes the spec files of all runs, those of their beginnings, and src/runs.rt
+       worked_run.py --write     writes the spec files of all runs, those of their beginnings, src/runs.rt and proof files
        worked_run.py --check     compares them with what stands; a line for each difference
 
 NAME.in is the input, and its lines that begin with `#` say what the run shows. NAME.out is the document that comes of
@@ -24,10 +24,27 @@ from run_terms import camel, choice, pieces_of, snake, wrapped
 
 TOP = Path(__file__).parent.parent
 RUNS = TOP / "tests/runs"
-CRATE = TOP / "crates/xrf_examples"
+CRATES = TOP / "crates"
+# from so many acts on, what is promised is proved part by part; and a run is long, and stands in a crate of its own
+IN_PARTS, LONG = 130, 300
 
 
-class Run:
+class Acts:
+    """The choices and the entries of a run or a beginning, and the crate in which it stands."""
+
+    @property
+    def is_long(self):
+        return len(self.entries) >= LONG
+
+    @property
+    def crate(self):
+        return "xrf_long_runs" if self.is_long else "xrf_examples"
+
+    def spec_file(self):
+        return CRATES / self.crate / f"specs/{self.file}.antt"
+
+
+class Run(Acts):
     """A run as its documents tell it."""
 
     def __init__(self, name):
@@ -35,12 +52,12 @@ class Run:
         found = difference(given, written)
         if found:
             raise ValueError(f"{name}: {found}")
-        self.name, self.title, self.document = name, given.title, written
+        self.name, self.title, self.document, self.file = name, given.title, written, camel(name)
         self.choices = [choice(words) for words in written.choices]
         self.entries = Entries(written).list
 
 
-class Beginning:
+class Beginning(Acts):
     """The first acts of a run, which other runs share."""
 
     def __init__(self, line, runs):
@@ -85,7 +102,7 @@ def module_of_run(run, beginnings):
     shared = next((b for b in beginnings if b.has_scenario and b.document.scenario() == run.document.scenario()), None)
     scenario = [] if shared else [*run_terms.scenario(run.document), ""]
     body = [*scenario, *choices_and_trace(run, beginnings, ("choices", "trace")), "", *run_terms.told(run.document)]
-    return with_imports(run.title, body, beginnings, f"pub use Rattle.xrf_examples.specs.{shared.file}.{{scenario}}\n" if shared else "")
+    return with_imports(run.title, body, beginnings, f"pub use Rattle.{shared.crate}.specs.{shared.file}.{{scenario}}\n" if shared else "")
 
 
 def module_of_beginnings(file, beginnings):
@@ -108,29 +125,28 @@ FUNCTION = """
 pub fn {name}()
     ensures runs {{ run {module}.scenario {module}.choices ≡ Ok {module}.trace }}
     ensures told {{ told_of {module}.scenario {module}.trace ≡ {module}.told }}
-{more}{{}}
+    ensures safe {{ Safe {module}.scenario {module}.trace }}
+{keeps}{{}}
 """
-SAFE = """    ensures safe {{ Safe {module}.scenario {module}.trace }}
-    ensures keeps {{ Promises {module}.scenario {module}.trace }}
-"""
-# from so many acts on, what is promised is proved part by part, or it is not computed at all
-IN_PARTS, TOO_LONG = 130, 300
-HEAD = """//! Worked runs. Each function says what the run of its choices comes to.
+KEEPS = "    ensures keeps {{ Promises {module}.scenario {module}.trace }}\n"
+HEAD = """//! {title}. Each function says what the run of its choices comes to.
 
-ghost use Rattle.std.specs.Prelude.{◌≡◌, Ok};
-ghost use Rattle.xrf_trace.specs.Runs.{run};
-ghost use Rattle.xrf_trace.specs.Safe.{Safe};
-ghost use Rattle.xrf_trace.specs.Promises.{Promises};
-ghost use Rattle.xrf_examples.specs.Making.{told_of};
+ghost use Rattle.std.specs.Prelude.{{◌≡◌, Ok}};
+ghost use Rattle.xrf_trace.specs.Runs.{{run}};
+ghost use Rattle.xrf_trace.specs.Safe.{{Safe}};
+{promises}ghost use Rattle.xrf_examples.specs.Making.{{told_of}};
 """
+PROMISES = "ghost use Rattle.xrf_trace.specs.Promises.{Promises};\n"
 
 
-def functions(runs):
-    text = HEAD + "".join(f"ghost use Rattle.xrf_examples.specs.{camel(name)};\n" for name in runs)
-    for run in runs.values():
-        module = camel(run.name)
-        more = SAFE.format(module=module) if len(run.entries) < TOO_LONG else ""
-        text += FUNCTION.format(title=run.title, name=run.name, module=module, more=more)
+def functions(runs, are_long):
+    """The source of the functions of the runs, or of the long ones, of which no promise is computed."""
+    runs = [run for run in runs.values() if run.is_long == are_long]
+    text = HEAD.format(title="Worked runs of several hundred acts" if are_long else "Worked runs", promises="" if are_long else PROMISES)
+    text += "".join(f"ghost use Rattle.{run.crate}.specs.{run.file};\n" for run in runs)
+    for run in runs:
+        keeps = "" if are_long else KEEPS.format(module=run.file)
+        text += FUNCTION.format(title=run.title, name=run.name, module=run.file, keeps=keeps)
     return text
 
 
@@ -156,11 +172,10 @@ def answers(run):
 def all_files():
     """What each generated file has to be."""
     runs, beginnings = read_all()
-    files = {CRATE / f"specs/{camel(run.name)}.antt": module_of_run(run, beginnings) for run in runs.values()}
-    for file in {beginning.file for beginning in beginnings}:
-        files[CRATE / f"specs/{file}.antt"] = module_of_beginnings(file, beginnings)
-    files[CRATE / "src/runs.rt"] = functions(runs)
-    files |= {CRATE / f"proofs/runs/{run.name}/Answers.antt": answers(run) for run in runs.values() if len(run.entries) < TOO_LONG}
+    files = {run.spec_file(): module_of_run(run, beginnings) for run in runs.values()}
+    files |= {beginning.spec_file(): module_of_beginnings(beginning.file, beginnings) for beginning in beginnings}
+    files |= {CRATES / crate / "src/runs.rt": functions(runs, crate == "xrf_long_runs") for crate in ("xrf_examples", "xrf_long_runs")}
+    files |= {CRATES / f"xrf_examples/proofs/runs/{run.name}/Answers.antt": answers(run) for run in runs.values() if not run.is_long}
     return files
 
 
@@ -187,7 +202,7 @@ def main():
     if args.check:
         return check(files)
     if args.name:
-        print(files[CRATE / f"specs/{camel(args.name)}.antt"], end="")
+        print(next(text for path, text in files.items() if path.stem == camel(args.name)), end="")
     for path, text in files.items() if args.write else ():
         path.parent.mkdir(parents=True, exist_ok=True)
         path.write_text(text)

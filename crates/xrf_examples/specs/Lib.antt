@@ -3,8 +3,6 @@ pub mod Refused
 pub mod Beginnings
 pub mod Units
 pub mod Takeovers
-pub mod LogGoesRound
-pub mod KeypointIsDue
 pub mod OrdinaryUnitOfWork
 pub mod GrantingWritesThatAreStopped
 pub mod ASecondActiveIsRefused
@@ -37,9 +35,3 @@ pub mod AFullRingAndAnUnsentMessage
 pub mod TheOperatorIsAsked
 pub mod AdiAtItsBoundary
 pub mod ThreadsRunAPlanToATakeover
-pub mod TakeoverWithTheDefaultIntervals
-pub mod TheFullLog
-pub mod KeypointsAndARingLogThatGoesRound
-pub mod ATornKeypointCloseThatClosesTheSlot
-pub mod ATornKeypointCloseThatLeavesTheSlotOpen
-pub mod ATornKeypointBodyThatSpellsANewerKeypoint

@@ -37,12 +37,6 @@ ghost use Rattle.xrf_examples.specs.AFullRingAndAnUnsentMessage;
 ghost use Rattle.xrf_examples.specs.TheOperatorIsAsked;
 ghost use Rattle.xrf_examples.specs.AdiAtItsBoundary;
 ghost use Rattle.xrf_examples.specs.ThreadsRunAPlanToATakeover;
-ghost use Rattle.xrf_examples.specs.TakeoverWithTheDefaultIntervals;
-ghost use Rattle.xrf_examples.specs.TheFullLog;
-ghost use Rattle.xrf_examples.specs.KeypointsAndARingLogThatGoesRound;
-ghost use Rattle.xrf_examples.specs.ATornKeypointCloseThatClosesTheSlot;
-ghost use Rattle.xrf_examples.specs.ATornKeypointCloseThatLeavesTheSlotOpen;
-ghost use Rattle.xrf_examples.specs.ATornKeypointBodyThatSpellsANewerKeypoint;
 
 /// A granting write that a stop loses leaves its number to the next sign-on; one that a stop lands keeps it, and it is confirmed.
 pub fn granting_writes_that_are_stopped()
@@ -298,40 +292,4 @@ pub fn threads_run_a_plan_to_a_takeover()
     ensures told { told_of ThreadsRunAPlanToATakeover.scenario ThreadsRunAPlanToATakeover.trace ≡ ThreadsRunAPlanToATakeover.told }
     ensures safe { Safe ThreadsRunAPlanToATakeover.scenario ThreadsRunAPlanToATakeover.trace }
     ensures keeps { Promises ThreadsRunAPlanToATakeover.scenario ThreadsRunAPlanToATakeover.trace }
-{}
-
-/// The active stops in the middle of a unit: the alternate misses it for ADI, goes through once that is confirmed, and undoes the unit.
-pub fn takeover_with_the_default_intervals()
-    ensures runs { run TakeoverWithTheDefaultIntervals.scenario TakeoverWithTheDefaultIntervals.choices ≡ Ok TakeoverWithTheDefaultIntervals.trace }
-    ensures told { told_of TakeoverWithTheDefaultIntervals.scenario TakeoverWithTheDefaultIntervals.trace ≡ TakeoverWithTheDefaultIntervals.told }
-{}
-
-/// A log of 64 slots that is used up answers LOGFULL to a PUT and still takes the COMMIT.
-pub fn the_full_log()
-    ensures runs { run TheFullLog.scenario TheFullLog.choices ≡ Ok TheFullLog.trace }
-    ensures told { told_of TheFullLog.scenario TheFullLog.trace ≡ TheFullLog.told }
-{}
-
-/// Keypoints move the start of the log, so that it goes round and is never full.
-pub fn keypoints_and_a_ring_log_that_goes_round()
-    ensures runs { run KeypointsAndARingLogThatGoesRound.scenario KeypointsAndARingLogThatGoesRound.choices ≡ Ok KeypointsAndARingLogThatGoesRound.trace }
-    ensures told { told_of KeypointsAndARingLogThatGoesRound.scenario KeypointsAndARingLogThatGoesRound.trace ≡ KeypointsAndARingLogThatGoesRound.told }
-{}
-
-/// A stop tears the close of a keypoint slot to a byte that closes it: the restart goes by the keypoint of the other slot.
-pub fn a_torn_keypoint_close_that_closes_the_slot()
-    ensures runs { run ATornKeypointCloseThatClosesTheSlot.scenario ATornKeypointCloseThatClosesTheSlot.choices ≡ Ok ATornKeypointCloseThatClosesTheSlot.trace }
-    ensures told { told_of ATornKeypointCloseThatClosesTheSlot.scenario ATornKeypointCloseThatClosesTheSlot.trace ≡ ATornKeypointCloseThatClosesTheSlot.told }
-{}
-
-/// A stop tears the close of a keypoint slot so that it stays open: the restart goes by the newer of the two keypoints.
-pub fn a_torn_keypoint_close_that_leaves_the_slot_open()
-    ensures runs { run ATornKeypointCloseThatLeavesTheSlotOpen.scenario ATornKeypointCloseThatLeavesTheSlotOpen.choices ≡ Ok ATornKeypointCloseThatLeavesTheSlotOpen.trace }
-    ensures told { told_of ATornKeypointCloseThatLeavesTheSlotOpen.scenario ATornKeypointCloseThatLeavesTheSlotOpen.trace ≡ ATornKeypointCloseThatLeavesTheSlotOpen.told }
-{}
-
-/// A torn body that spells a newer keypoint is not opened, so the restart does not go by it.
-pub fn a_torn_keypoint_body_that_spells_a_newer_keypoint()
-    ensures runs { run ATornKeypointBodyThatSpellsANewerKeypoint.scenario ATornKeypointBodyThatSpellsANewerKeypoint.choices ≡ Ok ATornKeypointBodyThatSpellsANewerKeypoint.trace }
-    ensures told { told_of ATornKeypointBodyThatSpellsANewerKeypoint.scenario ATornKeypointBodyThatSpellsANewerKeypoint.trace ≡ ATornKeypointBodyThatSpellsANewerKeypoint.told }
 {}

@@ -15,7 +15,7 @@ use Rattle.xrf_trace.specs.declared.entry.Entry.{Entry}
 use Rattle.xrf_trace.specs.declared.entry.Land.TheVariants as land
 use Rattle.xrf_trace.specs.declared.entry.Who.TheVariants as who
 use Rattle.xrf_examples.specs.Making.{entry_of, unit_of}
-use Rattle.xrf_examples.specs.LogGoesRound.{log_goes_round, to_log_goes_round}
+use Rattle.xrf_long_runs.specs.LogGoesRound.{log_goes_round, to_log_goes_round}
 
 abbrev pub scenario : Scen
 scenario = record {

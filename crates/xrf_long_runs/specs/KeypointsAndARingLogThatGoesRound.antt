@@ -1,4 +1,4 @@
--- A torn body that spells a newer keypoint is not opened, so the restart does not go by it.
+-- Keypoints move the start of the log, so that it goes round and is never full.
 use Rattle.std.specs.Prelude.{List, [], ◌∷◌, ◌++◌, replicate, codes, Some, None}
 use Rattle.xrf_base.specs.declared.site.Site.TheVariants as site
 use Rattle.xrf_base.specs.declared.items.ItemAnswer.TheVariants as answer
@@ -17,21 +17,21 @@ use Rattle.xrf_trace.specs.declared.entry.Entry.{Entry}
 use Rattle.xrf_trace.specs.declared.entry.Land.TheVariants as land
 use Rattle.xrf_trace.specs.declared.entry.Who.TheVariants as who
 use Rattle.xrf_examples.specs.Making.{Told, entry_of, owner_of, unit_of}
-use Rattle.xrf_examples.specs.KeypointIsDue.{keypoint_is_due, to_keypoint_is_due}
-pub use Rattle.xrf_examples.specs.KeypointIsDue.{scenario}
+use Rattle.xrf_long_runs.specs.LogGoesRound.{log_goes_round, to_log_goes_round}
+pub use Rattle.xrf_long_runs.specs.LogGoesRound.{scenario}
 
 abbrev pub choices : List Choice
 choices =
-    to_keypoint_is_due ++ choice.Step site.A ∷ choice.Stop site.A (landing.Torn (4 ∷ replicate 3 0 ++ 9 ∷ replicate 3 0 ++ 10 ∷ replicate 54 0)) ∷
-    choice.Confirm 1 ∷ choice.StartActive site.A ∷ replicate 16 (choice.Step site.A)
+    to_log_goes_round ++ choice.Stop site.A (landing.Torn (0 ∷ [])) ∷ choice.Confirm 1 ∷ choice.StartActive site.A ∷ replicate 17 (choice.Step site.A)
 
 abbrev pub trace : List Entry
 trace =
-    entry_of 0 who.A 2 (act.LogBody 92 (rec.Backout (unit_of 1 31))) land.Full ∷
-    entry_of 0 who.A 2 (act.LogClose 92) land.Full ∷
-    entry_of 0 who.A 2 (act.LogLook 92) land.Full ∷
-    entry_of 0 who.A 2 (act.Undo 1 (slot_of (Some (codes "V30")))) land.Full ∷
-    entry_of 0 who.A 2 (act.Undo 2 (slot_of (Some (codes "W30")))) land.Full ∷
+    entry_of 0 who.A 2 act.Restarted land.Full ∷
+    entry_of 0 who.A 2 (act.LogOpen 65 (rec.Backout (unit_of 1 22))) land.Full ∷
+    entry_of 0 who.A 2 (act.LogBody 65 (rec.Backout (unit_of 1 22))) land.Full ∷
+    entry_of 0 who.A 2 (act.LogLook 65) land.Full ∷
+    entry_of 0 who.A 2 (act.Undo 1 (slot_of (Some (codes "V21")))) land.Full ∷
+    entry_of 0 who.A 2 (act.Undo 2 (slot_of (Some (codes "W21")))) land.Full ∷
     entry_of 0 who.A 2 (act.LogRead 0) land.Full ∷
     entry_of 0 who.A 2 (act.LogRead 0) land.Full ∷
     entry_of 0 who.A 2 (act.Decide (decided.Owner acting.Nothing)) land.Full ∷
@@ -45,20 +45,19 @@ trace =
     entry_of 0 who.A 0 act.Reserve land.Full ∷
     entry_of 0 who.A 0 act.StartActive land.Full ∷
     entry_of 0 who.Env 0 (act.Confirm 1) land.Full ∷
-    entry_of 0 who.A 1 (act.KpBody 1 (record { number = 3; start = 90 })) (land.Stop (landing.Torn (4 ∷ replicate 3 0 ++ 9 ∷ replicate 3 0 ++ 10 ∷ replicate 54 0))) ∷
-    entry_of 0 who.A 1 (act.KpClose 1) land.Full ∷
-    keypoint_is_due
+    entry_of 0 who.A 1 (act.LogOpen 65 (rec.Commit (unit_of 1 22))) (land.Stop (landing.Torn (0 ∷ []))) ∷
+    log_goes_round
 
 abbrev pub told : Told
 told = record {
-  answers_a = replicate 123 (Some answer.Done);
+  answers_a = replicate 87 (Some answer.Done) ++ None ∷ [];
   answers_b = [];
   tick = 0;
   held = of_parts 1 2 (owner_of 2 site.A state.Running) None None;
-  records = 92;
-  done = 30;
-  undone = 1;
-  file = Some (Some (codes "V30")) ∷ Some (Some (codes "W30")) ∷ Some None ∷ Some None ∷ [];
+  records = 66;
+  done = 21;
+  undone = 0;
+  file = Some (Some (codes "V21")) ∷ Some (Some (codes "W21")) ∷ Some None ∷ Some None ∷ [];
   table_a = [];
   table_b = [];
 }

@@ -17,8 +17,8 @@ use Rattle.xrf_trace.specs.declared.entry.Entry.{Entry}
 use Rattle.xrf_trace.specs.declared.entry.Land.TheVariants as land
 use Rattle.xrf_trace.specs.declared.entry.Who.TheVariants as who
 use Rattle.xrf_examples.specs.Making.{Told, entry_of, owner_of, unit_of}
-use Rattle.xrf_examples.specs.KeypointIsDue.{keypoint_is_due, to_keypoint_is_due}
-pub use Rattle.xrf_examples.specs.KeypointIsDue.{scenario}
+use Rattle.xrf_long_runs.specs.KeypointIsDue.{keypoint_is_due, to_keypoint_is_due}
+pub use Rattle.xrf_long_runs.specs.KeypointIsDue.{scenario}
 
 abbrev pub choices : List Choice
 choices =

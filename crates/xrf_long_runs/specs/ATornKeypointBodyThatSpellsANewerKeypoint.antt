@@ -1,4 +1,4 @@
--- A stop tears the close of a keypoint slot to a byte that closes it: the restart goes by the keypoint of the other slot.
+-- A torn body that spells a newer keypoint is not opened, so the restart does not go by it.
 use Rattle.std.specs.Prelude.{List, [], ◌∷◌, ◌++◌, replicate, codes, Some, None}
 use Rattle.xrf_base.specs.declared.site.Site.TheVariants as site
 use Rattle.xrf_base.specs.declared.items.ItemAnswer.TheVariants as answer
@@ -17,13 +17,13 @@ use Rattle.xrf_trace.specs.declared.entry.Entry.{Entry}
 use Rattle.xrf_trace.specs.declared.entry.Land.TheVariants as land
 use Rattle.xrf_trace.specs.declared.entry.Who.TheVariants as who
 use Rattle.xrf_examples.specs.Making.{Told, entry_of, owner_of, unit_of}
-use Rattle.xrf_examples.specs.KeypointIsDue.{keypoint_is_due, to_keypoint_is_due}
-pub use Rattle.xrf_examples.specs.KeypointIsDue.{scenario}
+use Rattle.xrf_long_runs.specs.KeypointIsDue.{keypoint_is_due, to_keypoint_is_due}
+pub use Rattle.xrf_long_runs.specs.KeypointIsDue.{scenario}
 
 abbrev pub choices : List Choice
 choices =
-    to_keypoint_is_due ++ choice.Stop site.A (landing.Torn (127 ∷ [])) ∷ choice.Confirm 1 ∷ choice.StartActive site.A ∷
-    replicate 16 (choice.Step site.A)
+    to_keypoint_is_due ++ choice.Step site.A ∷ choice.Stop site.A (landing.Torn (4 ∷ replicate 3 0 ++ 9 ∷ replicate 3 0 ++ 10 ∷ replicate 54 0)) ∷
+    choice.Confirm 1 ∷ choice.StartActive site.A ∷ replicate 16 (choice.Step site.A)
 
 abbrev pub trace : List Entry
 trace =
@@ -45,7 +45,8 @@ trace =
     entry_of 0 who.A 0 act.Reserve land.Full ∷
     entry_of 0 who.A 0 act.StartActive land.Full ∷
     entry_of 0 who.Env 0 (act.Confirm 1) land.Full ∷
-    entry_of 0 who.A 1 (act.KpClose 1) (land.Stop (landing.Torn (127 ∷ []))) ∷
+    entry_of 0 who.A 1 (act.KpBody 1 (record { number = 3; start = 90 })) (land.Stop (landing.Torn (4 ∷ replicate 3 0 ++ 9 ∷ replicate 3 0 ++ 10 ∷ replicate 54 0))) ∷
+    entry_of 0 who.A 1 (act.KpClose 1) land.Full ∷
     keypoint_is_due
 
 abbrev pub told : Told

@@ -1,0 +1,73 @@
+-- Part by part: each computes to nothing, or to equations whose sides are the same.
+use Rattle.std.proofs.Common.{refl, take, drop}
+use Rattle.xrf_base.specs.declared.site.Site.TheVariants as site
+use Rattle.xrf_ctl.specs.declared.parts.OwnerState.TheVariants as state
+use Rattle.xrf_trace.specs.OneUpdater.{UpdatesAsOwner, CountsByGrants, GrantsNext, GrantsPlace}
+use Rattle.xrf_trace.specs.OwnHand.{OwnHand}
+use Rattle.xrf_trace.specs.FileIsBook.{FileIsBook}
+use Rattle.xrf_trace.specs.TableIsTracked.{TableIsTracked}
+use Rattle.xrf_trace.specs.StartByCause.{StartByCause}
+use Rattle.xrf_trace.specs.ThroughByProof.{ThroughByProof}
+use Rattle.xrf_trace.specs.FormatByLevel.{MeetsFormat}
+use Rattle.xrf_trace.specs.Each.{Each}
+use Rattle.xrf_examples.specs.Making.{owner_of}
+use Rattle.xrf_long_runs.specs.TheFullLog.{scenario, trace}
+use Rattle.xrf_long_runs.proofs.Formats.{AllWriteOne, formats_of_one}
+use Rattle.xrf_long_runs.proofs.Updates.{AllBy, updates_over}
+use Rattle.xrf_long_runs.proofs.Silent.{AllBringNone, silent_throughout}
+use Rattle.xrf_long_runs.proofs.runs.the_full_log.Goals as goal
+
+-- the job from its sign-on on
+signed_on : Each UpdatesAsOwner (drop 328 trace)
+signed_on = assumption
+
+working : AllBy (owner_of 1 site.A state.Running) (take 328 trace)
+working = assumption
+
+updates : Each UpdatesAsOwner trace
+updates = updates_over (owner_of 1 site.A state.Running) (take 328 trace) (drop 328 trace) refl signed_on working
+
+counts : Each (CountsByGrants scenario) trace
+counts = assumption
+
+grants : Each (GrantsNext scenario) trace
+grants = assumption
+
+places : Each (GrantsPlace scenario) trace
+places = assumption
+
+own_hand : OwnHand scenario trace
+own_hand = assumption
+
+file_is_book : FileIsBook scenario trace
+file_is_book = assumption
+
+table_is_tracked : TableIsTracked scenario trace
+table_is_tracked = assumption
+
+start_by_cause : StartByCause scenario trace
+start_by_cause = assumption
+
+through_by_proof : ThroughByProof scenario trace
+through_by_proof = assumption
+
+none_brought : AllBringNone trace
+none_brought = assumption
+
+one_written : AllWriteOne trace
+one_written = assumption
+
+meets_format : Each (MeetsFormat scenario) trace
+meets_format = assumption
+
+pub returns-clause-safe : goal.returns-clause-safe
+returns-clause-safe c = record {
+  one_updater = record { updates = updates; counts = counts; grants = grants; places = places };
+  own_hand = own_hand;
+  file_is_book = file_is_book;
+  table_is_tracked = table_is_tracked;
+  start_by_cause = start_by_cause;
+  through_by_proof = through_by_proof;
+  silent_once_seen = silent_throughout scenario trace none_brought;
+  format_by_level = record { meets = meets_format; format = formats_of_one scenario refl refl trace one_written };
+}

@@ -1,0 +1,8 @@
+pub mod TakeoverWithTheDefaultIntervals
+pub mod TheFullLog
+pub mod KeypointsAndARingLogThatGoesRound
+pub mod ATornKeypointCloseThatClosesTheSlot
+pub mod ATornKeypointCloseThatLeavesTheSlotOpen
+pub mod ATornKeypointBodyThatSpellsANewerKeypoint
+pub mod LogGoesRound
+pub mod KeypointIsDue

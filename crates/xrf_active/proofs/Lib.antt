@@ -1,0 +1,7 @@
+pub mod Backouts
+pub mod Draining
+pub mod Granting
+pub mod Plans
+pub mod Undoing
+pub mod Rows
+pub mod Small

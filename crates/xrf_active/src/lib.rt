@@ -1,0 +1,17 @@
+//! The job of an owner, with its restart.
+#![tactic(auto)]
+
+mod active;
+mod due;
+mod items;
+mod keypoints;
+mod logging;
+mod messages;
+mod reserving;
+mod restart;
+mod rounds;
+mod sending;
+
+pub use active::Active;
+pub use xrf_history::{Answer, EndWhy, Settings, Want};
+pub use xrf_job::Rooms;

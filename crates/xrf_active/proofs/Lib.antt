@@ -1,5 +1,6 @@
 pub mod Backouts
 pub mod Draining
+pub mod Failures
 pub mod Granting
 pub mod Plans
 pub mod Undoing

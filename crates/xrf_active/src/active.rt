@@ -1,10 +1,10 @@
 //! The job of an owner.
 
-ghost use Rattle.std.specs.Prelude.{◌≡◌, ℕ, ◌+◌, ◌<◌, [], ◌∷◌, List, Option, Some, None, true, false};
+ghost use Rattle.std.specs.Prelude.{◌≡◌, ℕ, ◌+◌, ◌<◌, [], ◌∷◌, List, Option, Some, None, true, false, is_some, length};
 ghost use Rattle.xrf_history.specs.Events.{Event, StartedActive, Ticked, Abended};
-ghost use Rattle.xrf_history.specs.Holding.{number};
+ghost use Rattle.xrf_history.specs.Holding.{number, is_restarted};
 ghost use Rattle.xrf_history.specs.Terminals.{table};
-ghost use Rattle.xrf_history.specs.Reserving.{last_decision};
+ghost use Rattle.xrf_history.specs.Reserving.{last_decision, sign_off_due};
 ghost use Rattle.xrf_history.specs.Notices.{notice};
 ghost use Rattle.xrf_history.specs.Next.{next};
 ghost use Rattle.xrf_job.specs.Rooms.{AreFor};
@@ -16,7 +16,7 @@ use xrf_cavm::Decided;
 use xrf_ctl::OwnerState;
 use xrf_exit::Notice;
 use xrf_file::Plan;
-use xrf_history::Settings;
+use xrf_history::{Settings, Want};
 use xrf_job::{Common, Purpose, Rooms};
 use xrf_logrec::Keypoint;
 use xrf_terms::TermTable;
@@ -76,6 +76,31 @@ impl Active {
             rolled: 0,
             sending: None,
         }
+    }
+
+    /// The act that it wants next.
+    pub fn want(&self) -> Want
+        requires { (h : List Event) × Stands self.now h × (length h < 16386) }
+        ensures { (h : List Event) → Stands self.now h → result ≡ next self.now.settings h }
+    {
+        match self.common.stage.act() {
+            Some(act) => act,
+            None => self.due().act(&self.settings),
+        }
+    }
+
+    /// RESTARTED was made.
+    pub fn is_restarted(&self) -> bool
+        ensures { (h : List Event) → Stands self.now h → result ≡ is_restarted h }
+    {
+        self.has_restarted
+    }
+
+    /// A sign-off is due or begun.
+    pub fn is_signing_off(&self) -> bool
+        ensures { (h : List Event) → Stands self.now h → result ≡ is_some (sign_off_due h) }
+    {
+        self.sign_off.is_some()
     }
 
     /// Its incarnation, 0 before it is granted.

@@ -3,6 +3,7 @@
 
 mod active;
 mod due;
+mod failing;
 mod items;
 mod keypoints;
 mod logging;
@@ -11,6 +12,7 @@ mod reserving;
 mod restart;
 mod rounds;
 mod sending;
+mod taking;
 
 pub use active::Active;
 pub use xrf_history::{Answer, EndWhy, Settings, Want};

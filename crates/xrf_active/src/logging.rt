@@ -22,7 +22,8 @@ use xrf_logrec::LogRec;
 
 /// Where a write of a log record begins: its slot is looked at where it was used before.
 pub(crate) fn log_stage(p: &Settings, place: u32, rec: LogRec) -> Stage
-    ensures { inside_of result ≡ Some (log_write p.now place rec) }
+    ensures stage { inside_of result ≡ Some (log_write p.now place rec) }
+    ensures within { (h : List Event) → AtHand p.now h rec → Within result p.now h }
 {
     if u32::from(p.limits.log) <= place {
         Stage::LogLook(place, rec)

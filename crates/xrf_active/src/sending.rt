@@ -5,6 +5,7 @@ ghost use Rattle.xrf_msg.specs.Messages.{is_tracked};
 ghost use Rattle.xrf_terms.specs.Table.{is_of, row_of};
 ghost use Rattle.xrf_history.specs.Events.{Event};
 ghost use Rattle.xrf_history.specs.Notices.{epoch};
+ghost use Rattle.xrf_history.specs.Reserving.{or_else};
 ghost use Rattle.xrf_history.specs.Sending.{tracked_rows, on_message, off_message, if_tracked, at_level_two, change_message, message_of_catch_up, is_end, message_due, may_write};
 ghost use Rattle.xrf_terms.specs.declared.rows.Row.{Row as Held};
 ghost use Rattle.xrf_active.specs.Changes.{off_row};
@@ -27,6 +28,17 @@ pub struct Sending {
 }
 
 impl Sending {
+    /// The table changed, and this message of it is due, if there is one.
+    pub(crate) fn changed(&mut self, message: Option<Message>)
+        ensures writer { self.new.writer ≡ self.old.writer }
+        ensures ended { self.new.has_ended ≡ self.old.has_ended }
+        ensures change { self.new.change ≡ or_else message self.old.change }
+    {
+        if message.is_some() {
+            self.change = message;
+        }
+    }
+
     /// A message is sent, and so none of a change is due.
     pub(crate) fn sent(&mut self, message: &Message)
         requires { self.old.writer.seq < 4294967295 }

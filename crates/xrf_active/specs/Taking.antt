@@ -1,0 +1,37 @@
+-- When a job may be handed an answer.
+use Rattle.std.specs.Prelude.{◌≡◌, ◌<◌, ◌≤◌, true, List, length}
+use Rattle.xrf_log.specs.Scan.{anchor_of}
+use Rattle.xrf_history.specs.declared.answer.Answer.{Answer}
+use Rattle.xrf_history.specs.declared.answer.Answer.TheVariants as answer
+use Rattle.xrf_history.specs.Events.{Event}
+use Rattle.xrf_history.specs.Looking.{change}
+use Rattle.xrf_history.specs.Accepting.{may_take}
+use Rattle.xrf_active.specs.declared.active.Active.{Active}
+use Rattle.xrf_active.specs.Standing.{Stands}
+
+-- its tick is not before that of the last change
+abbrev pub IsInTime : List Event → Answer → Type 0
+IsInTime h (answer.Look2 signal at) = change h ≤ at
+IsInTime h (answer.Decide known at) = change h ≤ at
+IsInTime h (answer.Exit said at) = change h ≤ at
+IsInTime h _ = Unit {0}
+
+-- a control record that is handed leaves an incarnation to give
+abbrev pub LeavesRoom : Answer → Type 0
+LeavesRoom (answer.Ctl held known) = held.last < 4294967295
+LeavesRoom _ = Unit {0}
+
+-- the keypoints that are handed have small numbers
+abbrev pub HasSmallKeys : Answer → Type 0
+HasSmallKeys (answer.Anchored block keys) = ((anchor_of keys).number < 16384) × ((anchor_of keys).start < 16384)
+HasSmallKeys _ = Unit {0}
+
+pub record CanTake (job : Active) (h : List Event) (a : Answer) : Type 0 where
+  pub stands : Stands job h
+  -- the answer fits the act, or is of a tick or of a choice that reaches it
+  pub fitting : may_take job.settings h a ≡ true
+  -- beside its START it has taken fewer than 16,384 answers
+  pub few : length h < 16385
+  pub in_time : IsInTime h a
+  pub room : LeavesRoom a
+  pub small_keys : HasSmallKeys a

@@ -1,0 +1,253 @@
+//! How an owner takes what its acts give.
+
+ghost use Rattle.std.specs.Prelude.{◌≡◌, ℕ, ◌<◌, ◌≤◌, ◌∷◌, List, Option, None, true, false, length};
+ghost use Rattle.xrf_history.specs.declared.answer.Answer.{Answer as An};
+ghost use Rattle.xrf_history.specs.Events.{Event, Looked1, Looked2, DecisionMade, MessageRead, BlockRead, RecordRead, Given};
+ghost use Rattle.xrf_history.specs.Looking.{change};
+ghost use Rattle.xrf_history.specs.Deciding.{cause};
+ghost use Rattle.xrf_history.specs.Answers.{is_plain, fits, made, place_of, gate_event};
+ghost use Rattle.xrf_history.specs.Working.{item_answer};
+ghost use Rattle.xrf_history.specs.Next.{next};
+ghost use Rattle.xrf_job.specs.declared.stage.Stage.{Stage as At};
+ghost use Rattle.xrf_active.specs.Standing.{Stands};
+
+use crate::active::Active;
+use crate::due::Due;
+use xrf_base::{Item, ItemAnswer, Tick};
+use xrf_cavm::Known;
+use xrf_ctl::{Control, Signal};
+use xrf_job::Stage;
+
+impl Active {
+    fn stage(&self) -> Stage
+        ensures { result ≡ self.now.common.stage }
+    {
+        self.common.stage
+    }
+
+    // an act is made that is answered by the tick alone
+    fn done(&mut self) -> Option<ItemAnswer>
+        requires stands { (h : List Event) × Stands self.old h × (length h < 16385) × (is_plain (next self.old.settings h) ≡ true) }
+        ensures stands { (h : List Event) → Stands self.old h → is_plain (next self.old.settings h) ≡ true → Stands self.new (made (next self.old.settings h) ∷ h) }
+        ensures answer { (h : List Event) → Stands self.old h → is_plain (next self.old.settings h) ≡ true → result ≡ item_answer self.old.settings (made (next self.old.settings h) ∷ h) }
+    {
+        match self.stage() {
+            Stage::Boundary => {
+                self.begun();
+                None
+            }
+            Stage::Reserve => {
+                self.reserved();
+                None
+            }
+            Stage::CtlWrite(written) => {
+                self.control_written(&written);
+                None
+            }
+            Stage::Release => {
+                self.released();
+                None
+            }
+            Stage::Ended(why) => {
+                self.ended(why);
+                None
+            }
+            Stage::Signal2(signal) => {
+                self.signalled2(&signal);
+                None
+            }
+            Stage::MsgClose(place, message) => {
+                self.message_closed(place, &message);
+                None
+            }
+            Stage::MsgBody(place, message) => {
+                self.message_bodied(place, &message);
+                None
+            }
+            Stage::MsgOpen(place, message) => {
+                self.message_opened(place, &message);
+                None
+            }
+            Stage::LogClose(place, rec) => {
+                self.log_closed(place, &rec);
+                None
+            }
+            Stage::LogBody(place, rec) => {
+                self.log_bodied(place, &rec);
+                None
+            }
+            Stage::LogOpen(place, rec) => {
+                if self.has_restarted {
+                    self.item_logged(place, &rec)
+                } else {
+                    self.backed_out(place, &rec);
+                    None
+                }
+            }
+            Stage::KpClose(place, keypoint) => {
+                self.key_closed(place, keypoint);
+                None
+            }
+            Stage::KpBody(place, keypoint) => {
+                self.key_bodied(place, keypoint);
+                None
+            }
+            Stage::KpOpen(place, keypoint) => {
+                self.key_opened(place, keypoint);
+                None
+            }
+            Stage::FileWrite(unit, rrn, value) => {
+                self.record_written(unit, rrn, &value);
+                Some(ItemAnswer::Done)
+            }
+            Stage::Undo(undo) => {
+                self.record_undone(&undo);
+                None
+            }
+            Stage::CtlRead => None,
+            Stage::Look1 => None,
+            Stage::Look2 => None,
+            Stage::Decide => None,
+            Stage::LogLook(..) => None,
+            Stage::FileRead(_) => None,
+        }
+    }
+
+    // an act at a boundary is made that is answered by the tick alone
+    fn begun(&mut self)
+        requires stands { (h : List Event) × Stands self.old h × (length h < 16385) × (is_plain (next self.old.settings h) ≡ true) }
+        requires boundary { self.old.common.stage ≡ At.Boundary }
+        ensures stands { (h : List Event) → Stands self.old h → is_plain (next self.old.settings h) ≡ true → Stands self.new (made (next self.old.settings h) ∷ h) }
+        ensures answer { (h : List Event) → Stands self.old h → is_plain (next self.old.settings h) ≡ true → item_answer self.old.settings (made (next self.old.settings h) ∷ h) ≡ None }
+    {
+        match self.due() {
+            Due::Reserve => self.reserved(),
+            Due::Round(signal) => self.signalled1(&signal),
+            Due::Undo(undo) => self.undo_made(&undo),
+            Due::Backout(place, rec) => self.log_bodied(place, &rec),
+            Due::Restarted => self.restart_declared(),
+            _ => {}
+        }
+    }
+
+    // the first part of a look is handed
+    fn look1_handed(&mut self, held: &Control, signal: &Option<Signal>)
+        requires { (h : List Event) × Stands self.old h × (length h < 16385) × (fits self.old.settings h (next self.old.settings h) (An.Look1 held.now signal.now) ≡ true) }
+        ensures { (h : List Event) → Stands self.old h → fits self.old.settings h (next self.old.settings h) (An.Look1 held.now signal.now) ≡ true → Stands self.new (Looked1 held.now signal.now ∷ h) }
+    {
+        match self.common.stage {
+            Stage::Look1 => self.looked1(held, signal),
+            Stage::Boundary => match self.due() {
+                _ => {},
+            },
+            _ => {},
+        }
+    }
+
+    // the second part of a look is handed
+    fn look2_handed(&mut self, signal: &Option<Signal>, at: Tick)
+        requires { (h : List Event) × Stands self.old h × (length h < 16385) × (fits self.old.settings h (next self.old.settings h) (An.Look2 signal.now at) ≡ true) × (change h ≤ at) }
+        ensures { (h : List Event) → Stands self.old h → fits self.old.settings h (next self.old.settings h) (An.Look2 signal.now at) ≡ true → Stands self.new (Looked2 signal.now at ∷ h) }
+    {
+        match self.common.stage {
+            Stage::Look2 => self.looked2(signal, at),
+            Stage::Boundary => match self.due() {
+                _ => {},
+            },
+            _ => {},
+        }
+    }
+
+    // what is confirmed of the record of the last look is handed
+    fn decision_handed(&mut self, known: Known, at: Tick)
+        requires { (h : List Event) × Stands self.old h × (length h < 16385) × (fits self.old.settings h (next self.old.settings h) (An.Decide known at) ≡ true) × (change h ≤ at) }
+        ensures { (h : List Event) → Stands self.old h → fits self.old.settings h (next self.old.settings h) (An.Decide known at) ≡ true → Stands self.new (DecisionMade known at (cause self.old.settings h known at) ∷ h) }
+    {
+        match self.common.stage {
+            Stage::Decide => self.decision_made(known, at),
+            Stage::Boundary => match self.due() {
+                _ => {},
+            },
+            _ => {},
+        }
+    }
+
+    // a message slot is handed
+    fn slot_handed(&mut self, slot: &[u8; 64])
+        requires { (h : List Event) × Stands self.old h × (length h < 16385) × (fits self.old.settings h (next self.old.settings h) (An.MsgSlot slot.now) ≡ true) }
+        ensures { (h : List Event) → Stands self.old h → fits self.old.settings h (next self.old.settings h) (An.MsgSlot slot.now) ≡ true → Stands self.new (MessageRead (place_of (next self.old.settings h)) slot.now ∷ h) }
+    {
+        match self.common.stage {
+            Stage::Boundary => match self.due() {
+                Due::Drain(_) => self.slot_drained(slot),
+                Due::Message(place, message) => self.slot_read(place, &message, slot),
+                _ => {},
+            },
+            _ => {},
+        }
+    }
+
+    // a further block of the log is handed
+    fn block_handed(&mut self, block: &[u8; 4096])
+        requires { (h : List Event) × Stands self.old h × (length h < 16385) × (fits self.old.settings h (next self.old.settings h) (An.LogBlock block.now) ≡ true) }
+        ensures { (h : List Event) → Stands self.old h → fits self.old.settings h (next self.old.settings h) (An.LogBlock block.now) ≡ true → Stands self.new (BlockRead block.now ∷ h) }
+    {
+        match self.common.stage {
+            Stage::Boundary => match self.due() {
+                Due::Scan(_) => self.block_read(block),
+                _ => {},
+            },
+            _ => {},
+        }
+    }
+
+    // the gate of a log or keypoint slot is handed
+    fn gate_handed(&mut self, gate: u8)
+        requires { (h : List Event) × Stands self.old h × (length h < 16385) × (fits self.old.settings h (next self.old.settings h) (An.Gate gate) ≡ true) }
+        ensures { (h : List Event) → Stands self.old h → fits self.old.settings h (next self.old.settings h) (An.Gate gate) ≡ true → Stands self.new (gate_event (next self.old.settings h) gate ∷ h) }
+    {
+        match self.common.stage {
+            Stage::LogLook(place, rec) => self.log_looked(place, &rec, gate),
+            Stage::Boundary => match self.due() {
+                Due::Backout(place, rec) => self.log_looked(place, &rec, gate),
+                Due::Keypoint(keypoint) => self.key_looked(
+                    (keypoint.number % 2) as u8,
+                    keypoint,
+                    gate,
+                ),
+                _ => {}
+            },
+            _ => {}
+        }
+    }
+
+    // the slot of a file record is handed
+    fn record_handed(&mut self, slot: &[u8; 32]) -> Option<ItemAnswer>
+        requires { (h : List Event) × Stands self.old h × (length h < 16385) × (fits self.old.settings h (next self.old.settings h) (An.FileSlot slot.now) ≡ true) }
+        ensures stands { (h : List Event) → Stands self.old h → fits self.old.settings h (next self.old.settings h) (An.FileSlot slot.now) ≡ true → Stands self.new (RecordRead (place_of (next self.old.settings h)) slot.now ∷ h) }
+        ensures answer { (h : List Event) → Stands self.old h → fits self.old.settings h (next self.old.settings h) (An.FileSlot slot.now) ≡ true → result ≡ item_answer self.old.settings (RecordRead (place_of (next self.old.settings h)) slot.now ∷ h) }
+    {
+        match self.common.stage {
+            Stage::FileRead(_) => self.record_read(slot),
+            Stage::Boundary => match self.due() {
+                _ => None,
+            },
+            _ => None,
+        }
+    }
+
+    // an item is handed
+    fn item_handed(&mut self, item: &Item) -> Option<ItemAnswer>
+        requires { (h : List Event) × Stands self.old h × (length h < 16385) × (fits self.old.settings h (next self.old.settings h) (An.Item item.now) ≡ true) }
+        ensures stands { (h : List Event) → Stands self.old h → fits self.old.settings h (next self.old.settings h) (An.Item item.now) ≡ true → Stands self.new (Given item.now ∷ h) }
+        ensures answer { (h : List Event) → Stands self.old h → fits self.old.settings h (next self.old.settings h) (An.Item item.now) ≡ true → result ≡ item_answer self.old.settings (Given item.now ∷ h) }
+    {
+        match self.common.stage {
+            Stage::Boundary => match self.due() {
+                Due::Item => self.given(item),
+                _ => None,
+            },
+            _ => None,
+        }
+    }
+}

@@ -1,5 +1,5 @@
 -- What a slot that is drained changes.
-use Rattle.std.proofs.Common.{◌≡◌, ℕ, Bool, true, false, ◌&&◌, ◌||◌, not, List, ◌∷◌, Option, refl, sym, ◌∙◌, ap}
+use Rattle.std.proofs.Common.{◌≡◌, ℕ, Bool, true, false, ◌&&◌, ◌||◌, not, List, ◌∷◌, refl, ◌∙◌, ap}
 use Rattle.xrf_terms.specs.declared.rows.Row.{Row}
 use Rattle.xrf_msg.specs.Numbers.{given}
 use Rattle.xrf_history.specs.declared.settings.Settings.{Settings}

@@ -1,5 +1,5 @@
 -- A job that signs on as active is an owner by its first CTLWRITE.
-use Rattle.std.proofs.Common.{◌≡◌, ℕ, Bool, true, false, ◌||◌, ◌&&◌, not, List, ◌∷◌, Option, Some, None, refl, sym, ◌∙◌, ap, arith}
+use Rattle.std.proofs.Common.{◌≡◌, Bool, true, false, List, ◌∷◌, Some, refl, ◌∙◌, arith}
 use Rattle.std.proofs.lemmas.Grind.{common_steps}
 use Rattle.xrf_base.specs.declared.site.Site.{Site}
 use Rattle.xrf_ctl.specs.declared.parts.Level.{Level}
@@ -9,8 +9,8 @@ use Rattle.xrf_cavm.specs.Grants.{grant_active}
 use Rattle.xrf_cavm.specs.Record.{is_owner as names_owner}
 use Rattle.xrf_history.specs.declared.settings.Settings.{Settings}
 use Rattle.xrf_history.specs.Events.{Event, ControlWritten}
-use Rattle.xrf_history.specs.Holding.{number, is_granted, is_owner, starts_active}
-use Rattle.xrf_history.specs.Taking.{is_draining, is_drained}
+use Rattle.xrf_history.specs.Holding.{is_granted, is_owner, starts_active}
+use Rattle.xrf_history.specs.Taking.{is_draining}
 use Rattle.xrf_history.specs.Reserving.{SignOnActive, purpose, granted, known_read, record_read}
 use Rattle.xrf_history.specs.Next.{record_for}
 

@@ -1,9 +1,7 @@
 -- What a record of an item's plan rests on, and the stages of its log record.
-use Rattle.std.proofs.Common.{◌≡◌, ℕ, ◌+◌, Bool, true, false, cond, List, [], ◌∷◌, drop, Option, Some, None, refl, sym, ◌∙◌, ap, subst, arith}
-use Rattle.std.specs.Prelude.{slice_get}
+use Rattle.std.proofs.Common.{◌≡◌, ℕ, Bool, true, false, cond, List, ◌∷◌, Option, Some, None, refl, sym, ◌∙◌, ap}
 use Rattle.xrf_base.specs.declared.items.UnitId.{UnitId}
-use Rattle.xrf_logrec.specs.declared.records.LogRec.{LogRec}
-use Rattle.xrf_logrec.specs.declared.records.LogRec.TheVariants.{Put, Commit, Backout}
+use Rattle.xrf_logrec.specs.declared.records.LogRec.TheVariants.{Put}
 use Rattle.xrf_file.specs.Ledger.{Ledger, IsPlanned, IsPending, plan_of}
 use Rattle.xrf_file.specs.declared.answers.Plan.{Plan}
 use Rattle.xrf_file.specs.declared.answers.Plan.TheVariants as plans

@@ -1,6 +1,5 @@
 -- The numbers of a job's log records and keypoints are small, where those of the keypoints handed are.
-use Rattle.std.proofs.Common.{◌≡◌, ℕ, zero, suc, ◌+◌, ◌-◌, ◌<◌, ◌≤◌, Bool, true, false, List, [], ◌∷◌, length, Option, Some, None, refl, sym, ◌∙◌, ap, arith}
-use Rattle.std.specs.Option.{option_map_or}
+use Rattle.std.proofs.Common.{◌≡◌, ℕ, zero, suc, ◌+◌, ◌-◌, ◌<◌, ◌≤◌, Bool, true, false, List, [], ◌∷◌, length, Option, Some, None, refl, arith}
 use Rattle.std.proofs.lemmas.Grind.{common_steps}
 use Rattle.xrf_base.specs.declared.items.Item.{Item}
 use Rattle.xrf_base.specs.declared.items.Item.TheVariants as items
@@ -11,13 +10,13 @@ use Rattle.xrf_gated.specs.declared.gated.Slot.{Slot}
 use Rattle.xrf_gated.specs.Slots.{slot_in}
 use Rattle.xrf_logrec.specs.declared.records.LogRec.{LogRec}
 use Rattle.xrf_logrec.specs.declared.records.LogRec.TheVariants.{Put, Commit, Backout}
-use Rattle.xrf_log.specs.Scan.{Scanned, record_at, run_of, reach_of, records_after, after_block, anchor_of, block_of_record, place_of_record, next_of}
+use Rattle.xrf_log.specs.Scan.{Scanned, record_at, run_of, reach_of, records_after, anchor_of, place_of_record, next_of}
 use Rattle.xrf_file.specs.Ledger.{Ledger, planned, after_begin, after_end, begin_answer}
 use Rattle.xrf_file.specs.Rows.{unit_named, is_hot}
 use Rattle.xrf_history.specs.declared.settings.Settings.{Settings}
 use Rattle.xrf_history.specs.declared.want.Want.TheVariants as want
 use Rattle.xrf_history.specs.Events.{Event, FirstBlockRead, BlockRead, LogOpened, KeyOpened, Given, RestartDeclared, ActFailed}
-use Rattle.xrf_history.specs.Restarting.{scan, records_opened, next_record, last_keypoint}
+use Rattle.xrf_history.specs.Restarting.{scan, next_record, last_keypoint}
 use Rattle.xrf_history.specs.Working.{ledger, after_record}
 use Rattle.xrf_job.proofs.Counts.{opened-few}
 use Rattle.xrf_active.specs.Standing.{AreSmall}

@@ -1,8 +1,7 @@
 -- What is next of a restart, and the record at hand.
-use Rattle.std.proofs.Common.{◌≡◌, ℕ, ◌+◌, ◌≤◌, Bool, true, false, List, [], ◌∷◌, length, drop, Option, Some, None, refl, sym, ◌∙◌, ap, subst, arith}
+use Rattle.std.proofs.Common.{◌≡◌, ℕ, ◌≤◌, true, false, List, length, drop, Some, refl, ◌∙◌, subst}
 use Rattle.std.specs.Prelude.{slice_get}
 use Rattle.xrf_base.specs.declared.items.UnitId.{UnitId}
-use Rattle.xrf_logrec.specs.declared.records.LogRec.{LogRec}
 use Rattle.xrf_logrec.specs.declared.records.LogRec.TheVariants.{Backout}
 use Rattle.xrf_logrec.specs.declared.records.Undo.{Undo}
 use Rattle.xrf_log.specs.Flight.{flight, undo_rows}
@@ -11,7 +10,7 @@ use Rattle.xrf_history.specs.declared.settings.Settings.{Settings}
 use Rattle.xrf_history.specs.declared.want.Want.TheVariants as want
 use Rattle.xrf_history.specs.Events.{Event}
 use Rattle.xrf_history.specs.Holding.{is_restarted}
-use Rattle.xrf_history.specs.Restarting.{scan, undone, rows_left, backouts_left, records_opened, next_record}
+use Rattle.xrf_history.specs.Restarting.{scan, undone, backouts_left, records_opened, next_record}
 use Rattle.xrf_history.specs.Rows.{log_write, restart_next}
 use Rattle.xrf_history.specs.Next.{record_at_hand}
 use Rattle.xrf_job.specs.Stages.{AtHand}

@@ -1,4 +1,4 @@
-use Rattle.std.proofs.Common.{◌≡◌, sym, ap, List, Some}
+use Rattle.std.proofs.Common.{sym, ap, List, Some}
 use Rattle.xrf_logrec.specs.declared.records.Undo.{Undo}
 use Rattle.xrf_file.specs.Ledger.{undo_rows}
 use Rattle.xrf_history.specs.Next.{roll_next}

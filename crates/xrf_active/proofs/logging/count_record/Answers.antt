@@ -1,6 +1,4 @@
-use Rattle.std.proofs.Common.{◌≡◌, Some}
 use Rattle.xrf_active.proofs.Plans.{pending-put}
-use Rattle.xrf_history.specs.Next.{record_of_plan}
 use Rattle.xrf_active.proofs.logging.count_record.Goals as goal
 
 pub put_logged-requires-clause-planned : goal.put_logged-requires-clause-planned

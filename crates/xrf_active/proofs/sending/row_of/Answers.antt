@@ -1,4 +1,3 @@
-use Rattle.std.proofs.Common.{◌≡◌, arith}
 use Rattle.xrf_active.proofs.Rows.{row_of-here, row_of-after}
 use Rattle.xrf_active.proofs.sending.row_of.Goals as goal
 

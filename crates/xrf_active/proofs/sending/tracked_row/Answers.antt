@@ -1,4 +1,4 @@
-use Rattle.std.proofs.Common.{◌≡◌, arith}
+use Rattle.std.proofs.Common.{arith}
 use Rattle.xrf_active.proofs.Rows.{tracked-here, tracked-after, tracked-other}
 use Rattle.xrf_active.proofs.sending.tracked_row.Goals as goal
 use Rattle.xrf_active.proofs.sending.tracked_row.Goals.{then-is_tracked+else-left-eq0, else-is_tracked}

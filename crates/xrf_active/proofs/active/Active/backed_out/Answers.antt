@@ -1,5 +1,4 @@
-use Rattle.std.proofs.Common.{◌≡◌, ◌∙◌, ℕ, ◌+◌, ap, refl, ◌∷◌, List, arith}
-use Rattle.xrf_history.specs.Events.{Event}
+use Rattle.std.proofs.Common.{ℕ, ◌+◌, ap, refl}
 use Rattle.xrf_active.proofs.Backouts.{backed_out}
 use Rattle.xrf_active.proofs.active.Active.backed_out.Goals as goal
 

@@ -1,6 +1,6 @@
-use Rattle.std.proofs.Common.{◌≡◌, ◌∙◌, ℕ, ◌+◌, true, false, sym, ap, subst, refl, ◌∷◌, List, arith}
+use Rattle.std.proofs.Common.{◌≡◌, ◌∙◌, ℕ, ◌+◌, true, false, sym, ap, subst, refl, ◌∷◌}
 use Rattle.xrf_history.specs.declared.want.Want.TheVariants as want
-use Rattle.xrf_history.specs.Events.{Event, ActFailed}
+use Rattle.xrf_history.specs.Events.{ActFailed}
 use Rattle.xrf_history.specs.Holding.{is_owner}
 use Rattle.xrf_active.specs.declared.active.Active.{Active}
 use Rattle.xrf_active.specs.Standing.{Stands}

@@ -1,10 +1,8 @@
-use Rattle.std.proofs.Common.{rules, ◌≡◌, ◌∙◌, sym, subst, ◌∷◌, List, Some, arith}
+use Rattle.std.proofs.Common.{◌≡◌, ◌∙◌, sym, subst, Some, arith}
 use Rattle.std.proofs.lemmas.Grind.{common_steps}
-use Rattle.xrf_history.specs.Events.{Event, ControlWritten}
 use Rattle.xrf_job.specs.declared.stage.Stage.{Stage as At}
 use Rattle.xrf_job.specs.Stages.{Within}
 use Rattle.xrf_history.specs.Next.{record_for}
-use Rattle.xrf_active.specs.Standing.{Stands}
 use Rattle.xrf_active.proofs.Granting.{is_owner-written, is_draining-written}
 use Rattle.xrf_active.proofs.active.Active.control_written.Goals as goal
 

@@ -1,6 +1,5 @@
-use Rattle.std.proofs.Common.{◌≡◌, ◌∙◌, ℕ, ◌+◌, ◌≤◌, length, ap, refl, ◌∷◌, List, arith}
+use Rattle.std.proofs.Common.{◌∙◌, ◌+◌, ◌≤◌, length, ap, refl, arith}
 use Rattle.xrf_file.specs.Ledger.{Ledger, keyed}
-use Rattle.xrf_history.specs.Events.{Event}
 use Rattle.xrf_active.proofs.Small.{keypoint-small}
 use Rattle.xrf_active.proofs.active.Active.key_opened.Goals as goal
 

@@ -1,20 +1,14 @@
-use Rattle.std.proofs.Common.{◌≡◌, ◌∙◌, sym, ap, subst, refl, ℕ, ◌+◌, ◌≤◌, true, false, Bool, ◌&&◌, ◌||◌, not, ◌∷◌, List, length, drop, filter, Option, arith}
-use Rattle.xrf_ctl.specs.declared.parts.OwnerState.{OwnerState}
-use Rattle.xrf_file.specs.Ledger.{Ledger, keyed}
-use Rattle.xrf_base.specs.declared.items.UnitId.{UnitId}
+use Rattle.std.proofs.Common.{◌≡◌, ◌∙◌, sym, ap, subst, refl, ℕ, true, Bool, ◌&&◌, ◌||◌, not, ◌∷◌, drop}
+use Rattle.xrf_file.specs.Ledger.{Ledger}
 use Rattle.xrf_logrec.specs.declared.keypoints.Keypoint.{Keypoint}
 use Rattle.xrf_log.specs.Flight.{flight}
-use Rattle.xrf_log.specs.Scan.{Scanned}
-use Rattle.xrf_history.specs.Events.{Event, ActFailed}
-use Rattle.xrf_history.specs.declared.want.Want.{Want}
-use Rattle.xrf_history.specs.declared.want.Want.TheVariants as want
-use Rattle.xrf_history.specs.Holding.{is_owner, is_restarted, is_let_through}
-use Rattle.xrf_history.specs.Restarting.{scan, records_opened, last_keypoint}
-use Rattle.xrf_history.specs.Working.{ledger}
-use Rattle.xrf_history.specs.Reserving.{or_else, is_on_message, fails_owner, sign_off_due, drop_due, fails_sending}
+use Rattle.xrf_history.specs.Events.{ActFailed}
+use Rattle.xrf_history.specs.Holding.{is_owner, is_let_through}
+use Rattle.xrf_history.specs.Restarting.{scan}
+use Rattle.xrf_history.specs.Reserving.{or_else, fails_owner, sign_off_due, drop_due, fails_sending}
 use Rattle.xrf_active.specs.declared.active.Active.{Active}
 use Rattle.xrf_active.specs.Standing.{Stands}
-use Rattle.xrf_active.proofs.Failures.{sign_off-failed, drop-failed, Counts, quiet-counts, quiet-message, sends-quiet}
+use Rattle.xrf_active.proofs.Failures.{sign_off-failed, drop-failed, quiet-counts, quiet-message, sends-quiet}
 use Rattle.xrf_ctl.specs.declared.parts.OwnerState.TheVariants.{OffAbend}
 use Rattle.std.specs.Prelude.{if◌then◌else◌, Some, None}
 use Rattle.xrf_history.specs.Taking.{is_draining}

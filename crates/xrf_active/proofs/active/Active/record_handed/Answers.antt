@@ -1,4 +1,4 @@
-use Rattle.std.proofs.Common.{◌≡◌, subst}
+use Rattle.std.proofs.Common.{subst}
 use Rattle.xrf_history.specs.Answers.{place_of}
 use Rattle.xrf_history.specs.Next.{next}
 use Rattle.xrf_job.specs.declared.stage.Stage.{Stage}

@@ -1,7 +1,6 @@
-use Rattle.std.proofs.Common.{◌≡◌, ◌∙◌, sym, ap, refl, ℕ, ◌+◌, true, false, List, Some, arith}
+use Rattle.std.proofs.Common.{◌≡◌, ◌∙◌, sym, ap, ℕ, ◌+◌, true, arith}
 use Rattle.xrf_logrec.specs.declared.records.LogRec.TheVariants.{Backout}
 use Rattle.xrf_log.specs.Scan.{Scanned, next_of}
-use Rattle.xrf_history.specs.Events.{Event}
 use Rattle.xrf_history.specs.Restarting.{scan, next_record}
 use Rattle.xrf_history.specs.Rows.{log_write}
 use Rattle.xrf_job.proofs.Counts.{opened-few}

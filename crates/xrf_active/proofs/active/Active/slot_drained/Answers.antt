@@ -1,6 +1,5 @@
-use Rattle.std.proofs.Common.{◌≡◌, ◌∙◌, sym, ap, refl, ℕ, true, false, Bool, ◌&&◌, List, is_some, arith}
+use Rattle.std.proofs.Common.{◌≡◌, ◌∙◌, sym, ap, true, false, Bool, ◌&&◌, is_some}
 use Rattle.xrf_msg.specs.Numbers.{given}
-use Rattle.xrf_history.specs.Events.{Event}
 use Rattle.xrf_history.specs.Holding.{number}
 use Rattle.xrf_history.specs.Taking.{gives, expected}
 use Rattle.xrf_active.proofs.Draining.{draining-read, table-read}

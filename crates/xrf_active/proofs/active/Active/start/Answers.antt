@@ -1,9 +1,6 @@
-use Rattle.std.proofs.Common.{rules, ◌≡◌, ◌∙◌, ap, sym, refl, ◌∷◌, [], List, Some, None, arith}
-use Rattle.std.proofs.lemmas.Grind.{common_steps}
-use Rattle.xrf_history.specs.Events.{Event, StartedActive}
+use Rattle.std.proofs.Common.{◌∙◌, ap, refl}
 use Rattle.xrf_log.specs.Scan.{Scanned, cleared}
 use Rattle.xrf_file.specs.Ledger.{Ledger}
-use Rattle.xrf_active.specs.Standing.{Stands}
 use Rattle.xrf_active.proofs.active.Active.start.Goals as goal
 
 pub returns-clause-stands : goal.returns-clause-stands

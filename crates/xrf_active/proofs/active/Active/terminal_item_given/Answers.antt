@@ -2,15 +2,14 @@ use Rattle.std.proofs.Common.{◌≡◌, ◌∙◌, sym, ap, refl, ◌∷◌, Li
 use Rattle.xrf_base.specs.declared.items.ItemAnswer.{ItemAnswer}
 use Rattle.xrf_ctl.specs.declared.parts.OwnerState.{OwnerState}
 use Rattle.xrf_terms.specs.declared.rows.Row.{Row}
-use Rattle.xrf_terms.specs.Items.{Answered}
-use Rattle.xrf_file.specs.Ledger.{Ledger, planned}
-use Rattle.xrf_history.specs.Events.{Event, Given}
+use Rattle.xrf_file.specs.Ledger.{Ledger}
+use Rattle.xrf_history.specs.Events.{Given}
 use Rattle.xrf_history.specs.Reserving.{or_else, state_by_item}
 use Rattle.xrf_history.specs.Terminals.{table, terminal_answer}
 use Rattle.xrf_history.specs.Working.{ledger}
 use Rattle.xrf_history.specs.Next.{after_item}
 use Rattle.xrf_active.specs.Changes.{off_row}
-use Rattle.xrf_active.proofs.Plans.{terminal-planned, terminal-plan, terminal-answer, kept-planned}
+use Rattle.xrf_active.proofs.Plans.{terminal-planned, terminal-plan, terminal-answer}
 use Rattle.xrf_active.proofs.active.Active.terminal_item_given.Goals as goal
 
 pub returns-clause-stands : goal.returns-clause-stands

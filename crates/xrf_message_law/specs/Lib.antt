@@ -1,0 +1,17 @@
+pub mod Laws
+pub mod LastOpened
+pub mod MayLand
+pub mod KeptSlots
+pub mod Writing
+pub mod Due
+pub mod Rounds
+pub mod Shown
+pub mod Readers
+pub mod Drained
+pub mod Numbering
+pub mod Listing
+pub mod Epochs
+pub mod Unbroken
+pub mod Names
+pub mod Telling
+pub mod Openers

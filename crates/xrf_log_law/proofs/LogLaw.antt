@@ -1,0 +1,101 @@
+-- The law of the log, from the invariant of every run.
+use Rattle.std.proofs.Common.{List, [], map, sym, ◌≡◌, ◌∙◌, ap, ℕ}
+use Rattle.xrf_log.specs.Flight.{flight, open_puts}
+use Rattle.xrf_log.specs.declared.taken.Row.{Row}
+use Rattle.xrf_file.specs.declared.rows.LoggedPut.{LoggedPut}
+use Rattle.xrf_trace.specs.declared.entry.Entry.{Entry}
+use Rattle.xrf_trace.specs.Devices.{image}
+use Rattle.xrf_trace.specs.Each.{AtSite}
+use Rattle.xrf_trace.specs.FileIsBook.{RestartsAtBook}
+use Rattle.xrf_trace.specs.UnitsAreItems.{AnswersMean}
+use Rattle.xrf_trace.specs.Log.{log}
+use Rattle.xrf_trace.specs.Scenario.{Scen, first_value}
+use Rattle.xrf_trace.proofs.ByKind.{by_kind}
+use Rattle.xrf_trace.proofs.Steps.{Step}
+use Rattle.xrf_trace.proofs.ScenarioLaws.{in_ranges}
+use Rattle.xrf_log_law.specs.Invariant.{Invariant}
+use Rattle.xrf_log_law.specs.Laws.{DataSetsAreSound, FileIsTheBook, ItemsAreAgreed, ItemsSeeTheBook, KeysAreFew, StepsMayGo, UnitsAreTheItems}
+use Rattle.xrf_log_law.specs.State.{State, booked, view}
+use Rattle.xrf_log_law.specs.Undone.{undo_at}
+use Rattle.xrf_log_law.proofs.Always.{all-ended, always, each-entry, each-part}
+use Rattle.xrf_log_law.proofs.Counted.{log-count}
+use Rattle.xrf_log_law.proofs.Ending.{EndedBy, answer-means}
+use Rattle.xrf_log_law.proofs.Ledgers.{open-rows}
+use Rattle.xrf_log_law.proofs.PromiseRuns.{Facts, facts, ledgers-are}
+use Rattle.xrf_log_law.proofs.Runs.{kept-kinds}
+use Rattle.xrf_log_law.proofs.Steady.{no-rows}
+use Rattle.xrf_log_law.proofs.Steps.{Kept, book-at}
+use Rattle.xrf_log_law.proofs.WorldRuns.{MayGo, go-kinds}
+
+-- at each RESTARTED the file is the book
+restarts : (s : Scen) (t : List Entry) (e : Entry) → Invariant s t → Step s t e → RestartsAtBook s t e
+restarts s t e k step = (by_kind s t e (λ e. Kept s t e) step (kept-kinds s t k)).book
+
+pub file-is-book : FileIsTheBook
+file-is-book s t scen is few = each-entry s (RestartsAtBook s) (restarts s) t (in_ranges s scen) is few
+
+-- units are items
+pub units-are-items : UnitsAreTheItems
+units-are-items s t scen is few =
+    let all = each-entry s (Facts s) (facts s) t (in_ranges s scen) is few in
+    record {
+      answers = each-part (λ before e. AtSite s before e.who (λ x h. EndedBy s t before e x)) (λ before e. AtSite s before e.who (λ x h. AnswersMean s (log t) before e x)) t
+          (answer-means s t) (all-ended s t (in_ranges s scen) is few);
+      once = each-part (Facts s) _ t (λ t e facts. facts.once) all;
+      asked = each-part (Facts s) _ t (λ t e facts. facts.asked) all;
+    }
+
+-- items see the book
+pub items-see-book : ItemsSeeTheBook
+items-see-book s t scen is few =
+    let all = each-entry s (Facts s) (facts s) t (in_ranges s scen) is few in
+    record {
+      restarted = each-part (Facts s) _ t (λ t e facts. facts.restarted) all;
+      reads = each-part (Facts s) _ t (λ t e facts. facts.reads) all;
+    }
+
+-- where no unit is in flight there is nothing to undo
+none-undone : (s : Scen) (t : List Entry) → State s.settings.log (first_value s) (view s t) → flight (log t) ≡ [] → (r : ℕ) → image s t r ≡ booked (first_value s) (view s t) r
+none-undone s t state none r =
+    let rows : open_puts (log t) ≡ [] = sym (open-rows (log t)) ∙ ap (map (λ (q : LoggedPut). record { unit = q.unit; undo = q.undo })) (no-rows (log t) none) in
+    sym (undone-by rows) ∙ state.undone.back r
+  where
+    undone-by : open_puts (log t) ≡ [] → undo_at r (map (λ row. row.undo) (open_puts (log t))) (image s t r) ≡ image s t r
+    undone-by rows = ap (λ (l : List Row). undo_at r (map (λ row. row.undo) l) (image s t r)) rows
+
+pub data-sets-stand : DataSetsAreSound
+data-sets-stand s t scen is few =
+    let state = (always s t (in_ranges s scen) is few).stands.state in
+    record {
+      book = λ none. book-at s t (none-undone s t state none);
+      within = state.within;
+      room = state.room;
+      count = log-count t;
+      slots = state.log.last;
+      keys = state.keys;
+    }
+
+-- what the steps of a world ask
+goes : (s : Scen) (t : List Entry) (e : Entry) → Invariant s t → Step s t e → MayGo s t e
+goes s t e k step = by_kind s t e (λ e. MayGo s t e) step (go-kinds s t k)
+
+pub steps-may-go : StepsMayGo
+steps-may-go s t scen is few =
+    let all = each-entry s (MayGo s) (goes s) t (in_ranges s scen) is few in
+    record {
+      written = each-part (MayGo s) _ t (λ t e goes. goes.written) all;
+      slots = each-part (MayGo s) _ t (λ t e goes. goes.slots) all;
+      scans = (always s t (in_ranges s scen) is few).scans;
+    }
+
+pub keys-are-few : KeysAreFew
+keys-are-few s t scen is few = (always s t (in_ranges s scen) is few).keys
+
+-- the trace answers as the jobs do
+pub items-agree : ItemsAreAgreed
+items-agree s t scen is few =
+    let holds = always s t (in_ranges s scen) is few in
+    record {
+      answers = each-part (Facts s) _ t (λ t e facts. facts.same) (each-entry s (Facts s) (facts s) t (in_ranges s scen) is few);
+      ledgers = λ x. ledgers-are s t x holds.stands holds.serves;
+    }

@@ -1,0 +1,15 @@
+pub mod Views
+pub mod Part
+pub mod State
+pub mod Undone
+pub mod Duty
+pub mod Jobs
+pub mod Laws
+pub mod Work
+pub mod Due
+pub mod Serving
+pub mod Promises
+pub mod Ranges
+pub mod Worlds
+pub mod Closed
+pub mod Invariant

@@ -1,0 +1,14 @@
+//! The law of the log.
+
+ghost use Rattle.xrf_log_law.specs.Laws.{FileIsTheBook, UnitsAreTheItems, ItemsSeeTheBook, DataSetsAreSound, StepsMayGo, KeysAreFew, ItemsAreAgreed};
+
+/// In every run the file is the book at each RESTARTED, units are their items, and items see the book.
+pub fn log_law()
+    ensures book { FileIsTheBook }
+    ensures units { UnitsAreTheItems }
+    ensures items { ItemsSeeTheBook }
+    ensures stands { DataSetsAreSound }
+    ensures steps { StepsMayGo }
+    ensures keys { KeysAreFew }
+    ensures agree { ItemsAreAgreed }
+{}

@@ -18,7 +18,6 @@ use Rattle.xrf_log_law.proofs.ServeRuns.{serve-kinds}
 use Rattle.xrf_log_law.proofs.Steps.{Kept}
 use Rattle.xrf_log_law.proofs.WorldRuns.{MayGo, go-kinds}
 use Rattle.xrf_trace.proofs.ScenarioLaws.{IsInRanges}
-
 -- each entry keeps it
 kept : (s : Scen) (t : List Entry) (e : Entry) → IsRun s (e ∷ t) → length (e ∷ t) ≤ 8192 → Invariant s t → Step s t e → Invariant s (e ∷ t)
 kept s t e is few k step = record {

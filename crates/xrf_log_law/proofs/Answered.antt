@@ -19,7 +19,6 @@ use Rattle.xrf_trace.specs.declared.entry.Entry.{Entry}
 use Rattle.xrf_trace.specs.Items.{Opened}
 use Rattle.xrf_trace.specs.Scenario.{Scen, settings, first_value}
 use Rattle.xrf_trace.specs.Acts.{act_of}
-use Rattle.xrf_trace.specs.Each.{Where}
 use Rattle.xrf_trace.specs.Log.{log}
 use Rattle.xrf_trace.specs.declared.entry.Land.{Land}
 use Rattle.xrf_trace.specs.Landing.{opens}
@@ -27,7 +26,6 @@ use Rattle.xrf_log_law.proofs.Promised.{AtWork, item-at, at-work, of-now}
 use Rattle.xrf_log_law.specs.Serving.{IsWrite, Serving, given_last, OfPlan}
 use Rattle.xrf_log_law.proofs.Knowing.{of-item, restart-hand}
 use Rattle.xrf_log_law.proofs.OfPlans.{next-of}
-use Rattle.xrf_log_law.proofs.Keep.{same-is}
 use Rattle.xrf_log_law.specs.State.{RecordDue, view}
 use Rattle.xrf_log_law.proofs.Ledgers.{has_row, same-turned, hot-rows}
 use Rattle.xrf_log_law.specs.Work.{open_numbered, IsOpenUnit, PlanNamed}
@@ -39,10 +37,13 @@ use Rattle.xrf_history.specs.Holding.{is_restarted}
 use Rattle.xrf_trace.specs.Devices.{image}
 use Rattle.xrf_log_law.proofs.Seq.{plan-hand}
 use Rattle.xrf_history.specs.Restarting.{backouts_left}
+use Rattle.xrf_log_law.proofs.Small.{not-of-false, of-not, where-is}
+use Rattle.xrf_logrec.proofs.LogLaws.{same_unit-true}
 use Rattle.xrf_base.specs.declared.items.Item.TheVariants as items
 use Rattle.xrf_file.specs.declared.answers.Plan.TheVariants as plans
 use Rattle.xrf_history.specs.declared.want.Want.TheVariants as want
 use Rattle.xrf_trace.specs.declared.entry.Act.TheVariants as act
+
 
 -- what is put into the file is what the PUT at hand asks
 write-same : (u unit : UnitId) (k rrn : ℕ) (v value : List ℕ) → u ≡ unit → k ≡ rrn → v ≡ value → Some (act.FileWrite u k v) ≡ Some (act.FileWrite unit rrn value)
@@ -132,22 +133,14 @@ found-kept q unit (u ∷ units) found = by (q u) (same_unit u unit) refl refl (f
   where
     by : (a b : Bool) → q u ≡ a → same_unit u unit ≡ b → (list_any (λ u. same_unit u unit) (filter q units) ≡ true → q unit ≡ true)
         → list_any (λ w. same_unit w unit) (if a then u ∷ filter q units else filter q units) ≡ true → q unit ≡ true
-    by true true e f rest found = subst (λ (v : UnitId). q v ≡ true) (same-is u unit f) e
+    by true true e f rest found = subst (λ (v : UnitId). q v ≡ true) (same_unit-true u unit f) e
     by true false e f rest found = rest (sym (rw f refl) ∙ found)
     by false b e f rest found = rest found
 
-not-true : (b : Bool) → not b ≡ true → b ≡ false
-not-true true e = absurd (cc)
-not-true false e = refl
-
 flight-open : (unit : UnitId) (records : List LogRec) → list_any (λ u. same_unit u unit) (flight records) ≡ true → has_ended unit records ≡ false
-flight-open unit records found = not-true (has_ended unit records) (found-kept (λ u. not (has_ended u records)) unit (put_units records) found)
+flight-open unit records found = of-not (has_ended unit records) (found-kept (λ u. not (has_ended u records)) unit (put_units records) found)
 
 -- nothing is logged of a unit that has ended
-pub where-is : (b : Bool) (P : Type 0) → P → Where b P
-where-is true P p = p
-where-is false P p = tt
-
 record-open : (s : Scen) (t : List Entry) (size : ℕ) (first : ℕ → Option (List ℕ)) (rec : LogRec) → RecordDue size first (view s t) rec → has_ended (unit_of rec) (log t) ≡ false
 record-open s t size first (Put unit rrn before) due = due.1
 record-open s t size first (Commit unit) due = flight-open unit (log t) due.0
@@ -172,19 +165,11 @@ row-put unit (Put u rrn before ∷ records) none = by (same_unit u unit) refl (r
 row-put unit (Commit u ∷ records) none = row-put unit records none
 row-put unit (Backout u ∷ records) none = row-put unit records none
 
-not-false : (b : Bool) → b ≡ false → not b ≡ true
-not-false true e = absurd (cc)
-not-false false e = refl
-
 pub cold-put : (unit : UnitId) (records : List LogRec) → has_ended unit records ≡ false → is_hot unit (open_numbered records) ≡ false → list_any (is_put_of unit) records ≡ false
 cold-put unit records open_yet cold =
-    row-put unit records (sym (hot-rows (λ u. not (has_ended u records)) unit records (not-false (has_ended unit records) open_yet)) ∙ cold)
+    row-put unit records (sym (hot-rows (λ u. not (has_ended u records)) unit records (not-of-false (has_ended unit records) open_yet)) ∙ cold)
 
 -- where an item is answered at once
-pub where-not : (b : Bool) (P : Type 0) → b ≡ false → Where b P
-where-not true P e = absurd (cc)
-where-not false P e = tt
-
 pub open-here : (s : Scen) (t : List Entry) (x : Site) (h : List Event) (w : Want) (name : List ℕ) (unit : UnitId) → AtWork s t x h w → open_unit s t x name ≡ Some unit
     → IsOpenUnit unit (ledger (settings s x) h).units
 open-here s t x h w name unit at is = named-open name (ledger (settings s x) h).units unit (sym (open-named s t x h w name at) ∙ is)

@@ -18,11 +18,11 @@ use Rattle.xrf_log_law.specs.Work.{Last, LastAt, NamedAt, LastIn, NamedIn, PlanN
 use Rattle.xrf_log_law.specs.State.{View}
 use Rattle.xrf_log_law.proofs.Lasting.{last-roll}
 use Rattle.xrf_log_law.specs.Jobs.{Idle}
-use Rattle.xrf_log_law.proofs.Small.{choose}
+use Rattle.xrf_log_law.proofs.Small.{choose, no-clash}
 use Rattle.xrf_log_law.proofs.Boundaries.{boundary-data}
-use Rattle.xrf_log_law.proofs.Seq.{no-clash}
 use Rattle.xrf_file.specs.declared.answers.Plan.TheVariants as plans
 use Rattle.xrf_history.specs.declared.want.Want.TheVariants as want
+
 
 -- all the last values hold but where some are named
 pub last-any : (first : ℕ → Option (List ℕ)) (v : View) (plan : Plan) (w : Want) → Last first v → LastAt first v plan w

@@ -34,11 +34,12 @@ use Rattle.xrf_log_law.proofs.Steady.{no-rows, begun-ledger}
 use Rattle.xrf_log_law.proofs.Ledgers.{open-rows}
 use Rattle.xrf_log_law.specs.Duty.{Restarts, known}
 use Rattle.xrf_log_law.proofs.Knowing.{by-write, not-ended, of-item}
-use Rattle.xrf_log_law.proofs.Seq.{no-clash}
 use Rattle.xrf_log_law.proofs.Work.{given-works, work-after}
 use Rattle.xrf_log_law.proofs.Before.{Before}
+use Rattle.xrf_log_law.proofs.Small.{false-true, no-clash}
 use Rattle.xrf_history.specs.declared.want.Want.TheVariants as want
 use Rattle.xrf_trace.specs.declared.entry.Land.TheVariants as land
+
 
 -- what holds of the next act of a job at work
 or_boundary-last : (first : ℕ → Option (List ℕ)) (v : View) (plan : Plan) (p : Settings) (h : List Event) (o : Option Want) → LastIn first v plan o → LastAt first v plan (or_boundary p h o)
@@ -60,9 +61,6 @@ no-put : (log : List LogRec) (unit : UnitId) (r : ℕ) → flight log ≡ [] →
 no-put log unit r none put =
     let rows : open_puts log ≡ [] = sym (open-rows log) ∙ ap (map (λ (q : LoggedPut). record { unit = q.unit; undo = q.undo })) (no-rows log none) in
     sym (ap (has_put unit r) rows) ∙ put
-
-false-true : {P : Type 0} → false ≡ true → P
-false-true e = absurd (cc)
 
 begun-works : (s : Scen) (t : List Entry) (x : Site) (h : List Event) → Restarts s.settings.log (first_value s) (view s t) (known (settings s x) h) → (scan (settings s x) h).ended ≡ true → flight (log t) ≡ []
     → ((serial : ℕ) → has_ended (record { inc = number h; serial = serial }) (log t) ≡ false)

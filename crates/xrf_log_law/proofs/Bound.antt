@@ -23,7 +23,7 @@ use Rattle.xrf_history.specs.Reserving.{sign_off_due}
 use Rattle.xrf_log_law.specs.Views.{AtEnd}
 use Rattle.xrf_log_law.specs.Duty.{Due, JobView, RestartDue, Undoes, job_view, known, KeyDue}
 use Rattle.xrf_log_law.specs.State.{RecordDue, State, View, log_part, booked}
-use Rattle.xrf_log_law.proofs.Small.{choose}
+use Rattle.xrf_log_law.proofs.Small.{choose, no-clash}
 use Rattle.xrf_log_law.proofs.Undoing.{same_unit-refl}
 use Rattle.xrf_log_law.specs.Undone.{undo_at, covers}
 use Rattle.xrf_log_law.specs.Jobs.{is_idle, Idle}
@@ -65,15 +65,11 @@ backout-due p first v h (unit ∷ units) state restart ended undoes none is =
     (head-found unit units (flight v.log) some, λ r put. subst (λ (rows : List Undo). undo_at r rows (v.image r) ≡ booked first v r) none (undoes.left r))
     (backout-hand p h unit units restart is) (λ e. (ended, none))
 
-no-clash : {P : Type 0} (b : Bool) → b ≡ false → b ≡ true → P
-no-clash true e f = absurd (cc)
-no-clash false e f = absurd (cc)
-
 undo-due : (p : Settings) (first : ℕ → Option (List ℕ)) (v : View) (h : List Event) (rows : List Undo) → State p.limits.log first v → is_restarted h ≡ false → (scan p h).ended ≡ true → Undoes first v (known p h)
     → rows_left p h ≡ rows → Due p.limits.log first v (job_view p h) (undo_next p h rows)
 undo-due p first v h [] state restart ended undoes is = backout-due p first v h (backouts_left p h) state restart ended undoes is refl
 undo-due p first v h (row ∷ rows) state restart ended undoes is =
-    (undoes.within row.rrn (ap (covers row.rrn) is ∙ own row.rrn), λ e. (ended, (rows, is)), λ e. no-clash (is_restarted h) restart e)
+    (undoes.within row.rrn (ap (covers row.rrn) is ∙ own row.rrn), λ e. (ended, (rows, is)), λ e. no-clash (is_restarted h) e restart)
   where
     own : (k : ℕ) → (k == k || covers k rows) ≡ true
     own k = let e : (k == k) ≡ true = grind (arith, common_steps) in rw e refl

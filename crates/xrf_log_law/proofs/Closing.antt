@@ -35,23 +35,26 @@ use Rattle.xrf_log_law.specs.Closed.{IsClosed, IsShut, ShutFor}
 use Rattle.xrf_log_law.specs.Work.{IsOpenUnit, PlanNamed}
 use Rattle.xrf_log_law.proofs.Answered.{restart-backout}
 use Rattle.xrf_log_law.proofs.Before.{Before, last-rises}
-use Rattle.xrf_log_law.proofs.Keep.{same-is}
 use Rattle.xrf_log_law.proofs.Knowing.{of-item, restart-hand}
 use Rattle.xrf_log_law.proofs.Meaning.{work-granted}
 use Rattle.xrf_log_law.proofs.Promised.{AtWork, at-work}
 use Rattle.xrf_log_law.proofs.Ranged.{units-of}
-use Rattle.xrf_log_law.proofs.Seq.{no-clash, plan-hand}
+use Rattle.xrf_log_law.proofs.Seq.{plan-hand}
 use Rattle.xrf_log_law.proofs.Shutting.{shut-planned, shut-recorded}
 use Rattle.xrf_log_law.proofs.SitesAfter.{OwnAfter, goes-of, own-after, own-other, quiet-after, quiet-other, sites-after, tick-after}
 use Rattle.xrf_log_law.proofs.Steps.{before-next}
 use Rattle.xrf_log_law.proofs.Told.{any-last}
 use Rattle.xrf_log_law.specs.Invariant.{Invariant}
+use Rattle.xrf_log_law.proofs.Small.{no-clash, or-of-false}
+use Rattle.xrf_log_law.proofs.SameRecords.{same-record}
+use Rattle.xrf_logrec.proofs.LogLaws.{same_unit-true}
 use Rattle.xrf_base.specs.declared.site.Site.TheVariants as site
 use Rattle.xrf_file.specs.declared.answers.Plan.TheVariants as plans
 use Rattle.xrf_setup.specs.declared.choice.Choice.TheVariants as choice
 use Rattle.xrf_history.specs.declared.want.Want.TheVariants as want
 use Rattle.xrf_trace.specs.declared.entry.Act.TheVariants as act
 use Rattle.xrf_trace.specs.declared.entry.Land.TheVariants as land
+
 
 -- a unit that is shut in a job stays so, after each act
 abbrev ShutAfter : Scen → List Entry → Site → UnitId → List Event → Act → Type 0
@@ -164,13 +167,6 @@ closed-kinds s t k = record {
 pub stays-closed : (s : Scen) (t : List Entry) (e : Entry) → Invariant s t → Step s t e → StaysClosed s t e
 stays-closed s t e k step = by_kind s t e (λ e. StaysClosed s t e) step (closed-kinds s t k)
 
-same-record : (a b : LogRec) → Some a ≡ Some b → a ≡ b
-same-record a b same = cc
-
-or-false : (a b : Bool) → b ≡ false → (a || b) ≡ a
-or-false true b e = refl
-or-false false b e = e
-
 -- the unit of the record of a plan is open
 named-unit : (units : List OpenUnit) (plan : Plan) (slot : List ℕ) (rec : LogRec) → record_of_plan plan slot ≡ Some rec → PlanNamed units plan → IsOpenUnit (unit_of rec) units
 named-unit units (plans.Put u k value place) slot rec hand named = subst (λ (o : LogRec). IsOpenUnit (unit_of o) units) (same-record (Put u k slot) rec hand) named
@@ -192,7 +188,7 @@ logged-other s t x h place rec unit b shut true is put = by (same_unit unit (uni
 
     by : (same : Bool) → same_unit unit (unit_of rec) ≡ same → same ≡ false
     by true e =
-        let unit_is : unit ≡ unit_of rec = same-is unit (unit_of rec) e in
+        let unit_is : unit ≡ unit_of rec = same_unit-true unit (unit_of rec) e in
         let own : number h ≡ unit.inc = sym ((units-of (settings s x) h (unit_of rec) here).0 ∙ at.serves.1) ∙ sym (ap (λ (u : UnitId). u.inc) unit_is) in
         absurd ((shut (work-granted h at.there) own).1.shut (subst (λ (u : UnitId). IsOpenUnit u (ledger (settings s x) h).units) (sym unit_is) here))
     by false e = refl
@@ -210,7 +206,7 @@ record-keeps (Commit u) records unit differs = record { put = refl; committed = 
   where
     by : (b : Bool) → list_any (same_unit unit) (if b then committed records else committed records ++ u ∷ []) ≡ is_committed records unit
     by true = refl
-    by false = any-last unit u (committed records) ∙ or-false (is_committed records unit) (same_unit unit u) (differs refl)
+    by false = any-last unit u (committed records) ∙ or-of-false (is_committed records unit) (same_unit unit u) (differs refl)
 record-keeps (Backout u) records unit differs = record { put = refl; committed = refl }
 
 log-keeps : (s : Scen) (t : List Entry) (x : Site) (h : List Event) (l : Land) (w : Want) (unit : UnitId) → Before s t x h w → ShutFor (settings s x) unit h

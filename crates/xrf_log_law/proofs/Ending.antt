@@ -35,6 +35,7 @@ use Rattle.xrf_log_law.proofs.RangeRuns.{at-own}
 use Rattle.xrf_log_law.proofs.SitesAfter.{OwnAfter, full-after, goes-of, own-other, sites-after}
 use Rattle.xrf_log_law.proofs.Steps.{before-next}
 use Rattle.xrf_log_law.specs.Invariant.{Invariant}
+use Rattle.xrf_log_law.proofs.Small.{where-later, where-none}
 use Rattle.xrf_base.specs.declared.items.Item.TheVariants as items
 use Rattle.xrf_base.specs.declared.site.Site.TheVariants as site
 use Rattle.xrf_trace.specs.declared.entry.Act.TheVariants as act
@@ -82,10 +83,6 @@ ended-later s t e k step unit_now _ ended = record { says = tt; closed = tt }
 of-item-later : (o : Option Item) (fact later : Item → Type 0) → ((item : Item) → fact item → later item) → OfItem o fact → OfItem o later
 of-item-later None fact later on holds = holds
 of-item-later (Some item) fact later on holds = on item holds
-
-where-later : (b : Bool) (fact later : Type 0) → (fact → later) → Where b fact → Where b later
-where-later true fact later on holds = on holds
-where-later false fact later on holds = tt
 
 ended-by-later : (s : Scen) (t : List Entry) (e : Entry) → Invariant s t → Step s t e → (before : List Entry) (old : Entry) (x : Site)
     → EndedBy s t before old x → EndedBy s (e ∷ t) before old x
@@ -145,11 +142,6 @@ ends-now s t x h a land.Full k job is =
     means
 
 -- by site
-no-where : (b c : Bool) (fact : Type 0) → c ≡ false → Where (b && c) fact
-no-where true true fact none = absurd (cc)
-no-where true false fact none = tt
-no-where false c fact none = tt
-
 abbrev pub EndedHere : Scen → List Entry → Entry → Type 0
 EndedHere s t e = AtSite s t e.who (λ x h. EndedBy s (e ∷ t) t e x)
 
@@ -158,8 +150,8 @@ entry-ends s t site.A h a l job ends = of-job (hist s t site.A) (λ g. EndedBy s
 entry-ends s t site.B h a l job ends = of-job (hist s t site.B) (λ g. EndedBy s (made t site.B (inc_at a (Some h)) a l ∷ t) t (made t site.B (inc_at a (Some h)) a l) site.B) (λ g e. ends)
 
 none-ends : (s : Scen) (t : List Entry) (x : Site) (i : ℕ) (a : Act) (l : Land) → answers_done (answer_by s t x a) ≡ false → EndedHere s t (made t x i a l)
-none-ends s t site.A i a l none = of-job (hist s t site.A) (λ g. EndedBy s (made t site.A i a l ∷ t) t (made t site.A i a l) site.A) (λ g e. no-where (is_in_full l) (answers_done (answer_by s t site.A a)) _ none)
-none-ends s t site.B i a l none = of-job (hist s t site.B) (λ g. EndedBy s (made t site.B i a l ∷ t) t (made t site.B i a l) site.B) (λ g e. no-where (is_in_full l) (answers_done (answer_by s t site.B a)) _ none)
+none-ends s t site.A i a l none = of-job (hist s t site.A) (λ g. EndedBy s (made t site.A i a l ∷ t) t (made t site.A i a l) site.A) (λ g e. where-none (is_in_full l) (answers_done (answer_by s t site.A a)) _ none)
+none-ends s t site.B i a l none = of-job (hist s t site.B) (λ g. EndedBy s (made t site.B i a l ∷ t) t (made t site.B i a l) site.B) (λ g e. where-none (is_in_full l) (answers_done (answer_by s t site.B a)) _ none)
 
 quiet-none : (s : Scen) (t : List Entry) (x : Site) (a : Act) → is_quiet a ≡ true → answers_done (answer_by s t x a) ≡ false
 quiet-none s t x act.Abend quiet = refl

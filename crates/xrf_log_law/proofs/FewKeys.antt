@@ -19,7 +19,7 @@ use Rattle.xrf_trace.specs.Landing.{landed, opens}
 use Rattle.xrf_trace.proofs.ByKind.{is_quiet, Kinds, by_kind}
 use Rattle.xrf_trace.proofs.Steps.{Step}
 use Rattle.xrf_log_law.specs.Worlds.{IsFew, KeysFew}
-use Rattle.xrf_log_law.proofs.Ring.{eq-of-true, body_gate, gate_body, gate_shut, opened_gate}
+use Rattle.xrf_log_law.proofs.Ring.{body_gate, gate_body, gate_shut, opened_gate}
 use Rattle.xrf_log_law.proofs.Keys.{closed-none, close_none, opened-some}
 use Rattle.xrf_log_law.proofs.Knowing.{of-item}
 use Rattle.xrf_log_law.specs.State.{key_number}
@@ -28,6 +28,7 @@ use Rattle.xrf_log_law.proofs.Steps.{before-next}
 use Rattle.xrf_log_law.proofs.Ranged.{one-more}
 use Rattle.xrf_log_law.proofs.Before.{Before}
 use Rattle.xrf_log_law.specs.Invariant.{Invariant}
+use Rattle.xrf_log_law.proofs.Small.{eq-of-true, false-true}
 use Rattle.xrf_history.specs.declared.want.Want.TheVariants as want
 use Rattle.xrf_trace.specs.declared.entry.Act.TheVariants as act
 
@@ -69,9 +70,6 @@ few-after s t x h l want.Nothing b counted few = tt
 few-after s t x h l (want.Exit told) b counted few = tt
 few-after s t x h l want.Item b counted few = of-item s t x (FewAfter t l) (λ i. one-few (length t) (keypoint_at (key_slot t i)) (few i))
 few-after s t x h l _ b counted few = λ i. one-few (length t) (keypoint_at (key_slot t i)) (few i)
-
-false-true : {P : Type 0} → false ≡ true → P
-false-true e = absurd (cc)
 
 quiet-few : (t : List Entry) (l : Land) (a : Act) → is_quiet a ≡ true → KeysFew t → FewAfter t l a
 quiet-few t l (act.KpClose k) e few = false-true e

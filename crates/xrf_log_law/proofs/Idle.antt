@@ -25,6 +25,7 @@ use Rattle.xrf_log_law.specs.Jobs.{Idle}
 use Rattle.xrf_log_law.proofs.Small.{choose, sound-by, none-not_some}
 use Rattle.xrf_log_law.proofs.Bound.{boundary-idle}
 use Rattle.xrf_log_law.specs.Due.{is_sound}
+use Rattle.xrf_history.proofs.Tests.{not-both}
 use Rattle.xrf_history.specs.declared.want.Want.TheVariants as want
 
 write-idle : (o : Option ControlRecord) → Idle (write_next o)
@@ -81,10 +82,6 @@ next-idle p h off none inner =
     or_boundary-idle p h (inside p h) inner (boundary-idle p h (λ owner not_due. none-not_some (sign_off_due h) not_due (off (off-by (is_owner h) (has_signed_off h) none owner))))
 
 -- nor does one after a failure
-true-false : (b : Bool) → b ≡ true → b ≡ false → ⊥
-true-false true e none = absurd (cc)
-true-false false e none = absurd (cc)
-
 pub unsound-idle : (p : Settings) (h : List Event) → is_sound h ≡ false → IfSome (inside p h) Idle → Idle (next p h)
 unsound-idle p h unsound inner =
-    or_boundary-idle p h (inside p h) inner (boundary-idle p h (λ owner not_due. true-false (is_sound h) (sound-by h not_due) unsound))
+    or_boundary-idle p h (inside p h) inner (boundary-idle p h (λ owner not_due. not-both (is_sound h) (sound-by h not_due) unsound))

@@ -1,5 +1,5 @@
 -- The ledger of a job is that of the trace.
-use Rattle.std.proofs.Common.{Bool, false, refl, true, ◌≡◌, ◌||◌, List, ℕ, None, Option, Some, if◌then◌else◌, [], ◌∷◌, ◌∙◌, ap, filter, not, sym}
+use Rattle.std.proofs.Common.{Bool, false, refl, true, ◌≡◌, List, ℕ, None, Option, Some, if◌then◌else◌, [], ◌∷◌, ◌∙◌, ap, filter, not, sym}
 use Rattle.xrf_base.specs.declared.items.ItemAnswer.TheVariants.{Done}
 use Rattle.xrf_base.specs.declared.items.ItemAnswer.{ItemAnswer}
 use Rattle.xrf_base.specs.declared.items.UnitId.{UnitId}
@@ -23,19 +23,13 @@ use Rattle.xrf_trace.specs.declared.entry.Entry.{Entry}
 use Rattle.xrf_trace.specs.Scenario.{Scen, settings}
 use Rattle.xrf_trace.specs.Jobs.{hist}
 use Rattle.xrf_log_law.specs.Work.{IsOpenUnit, Ledgers}
-use Rattle.xrf_log_law.proofs.Seq.{no-clash}
 use Rattle.xrf_log_law.proofs.Undoing.{same_unit-refl}
 use Rattle.xrf_log_law.specs.Serving.{opened_of}
+use Rattle.xrf_history.proofs.Tests.{or-left, or-right}
+use Rattle.xrf_log_law.proofs.Small.{no-clash, not-of-false}
 use Rattle.xrf_base.specs.declared.items.Item.TheVariants as items
 use Rattle.xrf_history.specs.declared.want.Want.TheVariants as want
 
-first : (a b : Bool) → a ≡ true → (a || b) ≡ true
-first true b e = refl
-first false b e = absurd (cc)
-
-second : (a b : Bool) → b ≡ true → (a || b) ≡ true
-second true b e = refl
-second false b e = e
 
 -- what stays of a ledger
 keeps-begin : {T : Type 0} (f : Ledger → T) (l : Ledger) (name : List ℕ) → ((begun : ℕ) (units : List OpenUnit) → f (record l { begun = begun; units = units }) ≡ f l) → (answer : ItemAnswer) → f (after_begin l name answer) ≡ f l
@@ -88,14 +82,10 @@ filter-open units q (put ∷ puts) named kept =
         → ((unit : UnitId) → is_hot unit (if b then put ∷ filter (λ put. q put.unit) puts else filter (λ put. q put.unit) puts) ≡ true → IsOpenUnit unit units)
         → (((unit : UnitId) → is_hot unit (filter (λ put. q put.unit) puts) ≡ true → IsOpenUnit unit units) → filter (is_open_unit units) puts ≡ filter (λ put. q put.unit) puts)
         → (if c then put ∷ filter (is_open_unit units) puts else filter (is_open_unit units) puts) ≡ (if b then put ∷ filter (λ put. q put.unit) puts else filter (λ put. q put.unit) puts)
-    by true true is here named rest = ap (λ (left : List LoggedPut). put ∷ left) (rest (λ unit hot. named unit (second (same_unit put.unit unit) _ hot)))
-    by true false is here named rest = no-clash (is_open_unit units put) (named put.unit (first (same_unit put.unit put.unit) _ (same_unit-refl put.unit))) here
+    by true true is here named rest = ap (λ (left : List LoggedPut). put ∷ left) (rest (λ unit hot. named unit (or-right (same_unit put.unit unit) _ hot)))
+    by true false is here named rest = no-clash (is_open_unit units put) (named put.unit (or-left (same_unit put.unit put.unit) _ (same_unit-refl put.unit))) here
     by false true is here named rest = no-clash (q put.unit) (kept put.unit here) is
     by false false is here named rest = rest named
-
-not-is : (b : Bool) → b ≡ false → not b ≡ true
-not-is true e = absurd (cc)
-not-is false e = refl
 
 -- the ledger of the job is that of the trace
 ledger-made : (sl sl' re re' inc inc' be be' ne ne' st st' : ℕ) (un un' : List OpenUnit) (pu pu' : List LoggedPut) → sl ≡ sl' → re ≡ re' → inc ≡ inc' → be ≡ be' → ne ≡ ne' → st ≡ st' → un ≡ un' → pu ≡ pu'
@@ -112,6 +102,6 @@ joined s t x h o job is inc opened =
     let l : Ledger = ledger (settings s x) h in
     let units : o.units ≡ l.units = ap (λ (p : Opened). p.units) opened in
     let puts : filter (is_open_unit l.units) (numbered (log t)) ≡ l.puts =
-    filter-open l.units (λ unit. not (has_ended unit (log t))) (numbered (log t)) (λ unit hot. is.named unit (ap (is_hot unit) is.puts ∙ hot)) (λ unit here. not-is (has_ended unit (log t)) (is.unended unit here)) ∙ sym is.puts in
+    filter-open l.units (λ unit. not (has_ended unit (log t))) (numbered (log t)) (λ unit hot. is.named unit (ap (is_hot unit) is.puts ∙ hot)) (λ unit here. not-of-false (has_ended unit (log t)) (is.unended unit here)) ∙ sym is.puts in
     ledger-is (ledger_by s t x o) l (sym is.slots) (sym (ledger-records (settings s x) h)) (ap (number_of_job) job ∙ sym inc) (ap (λ (p : Opened). p.begun) opened) (sym is.next) (sym is.begins) units
     (ap (λ (u : List OpenUnit). filter (is_open_unit u) (numbered (log t))) units ∙ puts)

@@ -18,15 +18,15 @@ use Rattle.xrf_trace.specs.declared.entry.Land.{Land}
 use Rattle.xrf_trace.specs.Landing.{landed, opens, is_in_full}
 use Rattle.xrf_trace.specs.Book.{value_after}
 use Rattle.xrf_trace.specs.Log.{committed}
-use Rattle.xrf_log_law.proofs.Ring.{gate_body, close-stands, body-stands, open-stands, later-stands, eq-of-true}
+use Rattle.xrf_log_law.proofs.Ring.{gate_body, close-stands, body-stands, open-stands, later-stands}
 use Rattle.xrf_log_law.specs.Views.{LogStands, AtEnd}
 use Rattle.xrf_log_law.specs.State.{State, View, after, log_part, RecordDue, KeysStand, booked}
-use Rattle.xrf_log_law.proofs.Small.{choose}
+use Rattle.xrf_log_law.proofs.Small.{choose, eq-of-true, false-if, no-clash}
 use Rattle.xrf_log_law.proofs.Recording.{Recorded, recorded, committed-ended}
 use Rattle.xrf_log_law.proofs.Keys.{close-keys, body-keys, open-keys}
 use Rattle.xrf_log_law.specs.Duty.{KeyDue, open_rows}
 use Rattle.xrf_log_law.specs.Undone.{covers, value_by, has_put}
-use Rattle.xrf_log_law.proofs.Undoing.{write-undone, true-not-false}
+use Rattle.xrf_log_law.proofs.Undoing.{write-undone}
 use Rattle.xrf_trace.specs.declared.entry.Act.TheVariants as act
 
 abbrev IsWhole : Slot → Type 0
@@ -166,10 +166,6 @@ undo-state size first v k own l covered state =
       unput = state.unput;
     }
 
-pub no-true : (b : Bool) → (b ≡ true → ⊥) → b ≡ false
-no-true true f = absurd (f refl)
-no-true false f = refl
-
 any-false : (unit : UnitId) (u : UnitId) (units : List UnitId) → (same_unit unit u || list_any (same_unit unit) units) ≡ false → (same_unit unit u ≡ false) × (list_any (same_unit unit) units ≡ false)
 any-false unit u units none = by (same_unit unit u) none
   where
@@ -195,9 +191,6 @@ has_put-covers unit r (row ∷ rows) put = by (row.undo.rrn == r) (same_unit row
     by true own rest put = refl
     by false own rest put = rest put
 
-pub same-is : (a b : UnitId) → same_unit a b ≡ true → a ≡ b
-same-is a b e = same_unit-true a b e
-
 pub write-state : (size : ℕ) (first : ℕ → Option (List ℕ)) (v : View) (unit : UnitId) (k : ℕ) (value : List ℕ) (l : Land) → has_ended unit v.log ≡ false → has_put unit k (open_puts v.log) ≡ true
     → State size first v → State size first (after size (act.FileWrite unit k value) l v)
 write-state size first v unit k value l open_yet put state =
@@ -222,12 +215,12 @@ write-state size first v unit k value l open_yet put state =
     others u e = rw e refl
 
     uncommitted : list_any (same_unit unit) (committed v.log) ≡ false
-    uncommitted = no-true (list_any (same_unit unit) (committed v.log)) (λ e. true-not-false (has_ended unit v.log) (committed-ended unit v.log e) open_yet)
+    uncommitted = false-if (list_any (same_unit unit) (committed v.log)) (λ e. no-clash (has_ended unit v.log) (committed-ended unit v.log e) open_yet)
 
     unput : (u : UnitId) (r : ℕ) → has_ended u v.log ≡ false → has_put u r (open_puts v.log) ≡ false → (x : Option (List ℕ)) → (own full here : Bool) → same_unit unit u ≡ own → (k == r) ≡ here
         → value_after r (if own && full then (k, value) ∷ v.puts u else v.puts u) x ≡ x
     unput u r still none x true true true e f =
-        true-not-false (has_put u r (open_puts v.log)) (subst (λ (n : ℕ). has_put u n (open_puts v.log) ≡ true) (eq-of-true k r f) (subst (λ (w : UnitId). has_put w k (open_puts v.log) ≡ true) (same-is unit u e) put)) none
+        no-clash (has_put u r (open_puts v.log)) (subst (λ (n : ℕ). has_put u n (open_puts v.log) ≡ true) (eq-of-true k r f) (subst (λ (w : UnitId). has_put w k (open_puts v.log) ≡ true) (same_unit-true unit u e) put)) none
     unput u r still none x true true false e f = rw f (state.unput u r still none x)
     unput u r still none x true false here e f = state.unput u r still none x
     unput u r still none x false full here e f = state.unput u r still none x

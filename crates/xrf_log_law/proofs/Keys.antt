@@ -12,9 +12,9 @@ use Rattle.xrf_log.specs.Scan.{keypoint_at, in_force, anchor_of}
 use Rattle.xrf_trace.specs.Devices.{with_gate, close_at, body_at, with_body, open_at}
 use Rattle.xrf_trace.specs.declared.entry.Land.{Land}
 use Rattle.xrf_trace.specs.Landing.{landed, opens}
-use Rattle.xrf_log_law.proofs.Ring.{close_same, eq-of-false, eq-of-true, body_gate, eq-false, gate_body, gate_shut, opened_gate}
+use Rattle.xrf_log_law.proofs.Ring.{close_same, body_gate, gate_body, gate_shut, opened_gate}
 use Rattle.xrf_log_law.specs.State.{KeysStand}
-
+use Rattle.xrf_log_law.proofs.Small.{eq-false, eq-of-false, eq-of-true}
 -- a keypoint
 abbrev keyed : ℕ → ℕ → Keypoint
 keyed number start = record { number = number; start = start }

@@ -25,7 +25,7 @@ use Rattle.xrf_trace.specs.declared.entry.Act.{Act}
 use Rattle.xrf_trace.specs.Words.{items_taken, now}
 use Rattle.xrf_trace.specs.Jobs.{item_event, handed, block_event}
 use Rattle.xrf_trace.specs.Devices.{key_slots, log_block, log_slot, open_at, body_at, close_at}
-use Rattle.xrf_log_law.proofs.Seq.{After, no-clash}
+use Rattle.xrf_log_law.proofs.Seq.{After}
 use Rattle.xrf_log_law.specs.Duty.{IsUnread, Restarts, known, rows_of_known}
 use Rattle.xrf_log_law.specs.Jobs.{Idle}
 use Rattle.xrf_log_law.proofs.Before.{Before, log-some}
@@ -36,17 +36,11 @@ use Rattle.xrf_log_law.proofs.Restarted.{scanned-restarts, backed-restarts, move
 use Rattle.xrf_log_law.proofs.Keys.{anchor}
 use Rattle.xrf_log_law.proofs.Idle.{AfterIdle, act-idle}
 use Rattle.xrf_base.specs.Ranges.{AreLimits}
+use Rattle.xrf_history.proofs.Tests.{or-left}
+use Rattle.xrf_log_law.proofs.Small.{and-left, no-clash}
 use Rattle.xrf_history.specs.declared.want.Want.TheVariants as want
 use Rattle.xrf_trace.specs.declared.entry.Act.TheVariants as act
 use Rattle.xrf_trace.specs.declared.entry.Land.TheVariants as land
-
-pub and-left : (a b : Bool) → (a && b) ≡ true → a ≡ true
-and-left true b e = refl
-and-left false b e = absurd (cc)
-
-or-first : (a b : Bool) → a ≡ true → (a || b) ≡ true
-or-first true b e = refl
-or-first false b e = absurd (cc)
 
 -- that holds of an item that is given, or of none
 pub of-item : (s : Scen) (t : List Entry) (x : Site) (P : Act → Type 0) → P (act.Item (items_taken t x + 1)) → IfSome (next_item s t x) P
@@ -66,7 +60,7 @@ ReadsAsOwner s t x h a = has_read_block (handed s t x (now t) h a ∷ h) ≡ tru
 pub read-after : (s : Scen) (t : List Entry) (x : Site) (h : List Event) (w : Want) → Before s t x h w → IfSome (act_of s t x h w) (ReadsAsOwner s t x h)
 read-after s t x h want.Nothing b = tt
 read-after s t x h (want.Exit told) b = tt
-read-after s t x h (want.CtlWrite written) b = λ e. or-first (is_owner h) _ (b.stands.0 e)
+read-after s t x h (want.CtlWrite written) b = λ e. or-left (is_owner h) _ (b.stands.0 e)
 read-after s t x h (want.LogRead n) b = by (has_read_block h)
   where
     by : (has : Bool) → has_read_block (block_event s t n has ∷ h) ≡ true → is_owner (block_event s t n has ∷ h) ≡ true

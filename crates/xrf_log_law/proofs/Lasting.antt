@@ -23,11 +23,12 @@ use Rattle.xrf_trace.specs.Book.{value_after}
 use Rattle.xrf_trace.specs.Log.{committed}
 use Rattle.xrf_log_law.specs.Work.{Last, RollLast, LastAt, LastIn, LastBut}
 use Rattle.xrf_log_law.specs.State.{View, State, value_at, RecordDue, after}
-use Rattle.xrf_log_law.proofs.Small.{choose}
-use Rattle.xrf_log_law.proofs.Undoing.{false-or-true, put-found, true-not-false, without, same_unit-refl}
+use Rattle.xrf_log_law.proofs.Small.{choose, false-if, no-clash}
+use Rattle.xrf_log_law.proofs.Undoing.{put-found, without, same_unit-refl}
 use Rattle.xrf_log_law.specs.Undone.{has_put, other_has_put, value_by}
 use Rattle.xrf_log_law.proofs.Recording.{commit-value, committed-ended}
-use Rattle.xrf_log_law.proofs.Keep.{no-true, value_by-uncommitted}
+use Rattle.xrf_log_law.proofs.Keep.{value_by-uncommitted}
+use Rattle.xrf_log_law.proofs.SameRecords.{same-backout, same-put}
 use Rattle.xrf_file.specs.declared.answers.Plan.TheVariants as plans
 use Rattle.xrf_trace.specs.declared.entry.Act.TheVariants as act
 use Rattle.xrf_trace.specs.declared.entry.Land.TheVariants as land
@@ -70,8 +71,8 @@ read-last first v p (plans.Commit u place) slot last = last
 -- two open units have not put one record
 lock-other : (first : ℕ → Option (List ℕ)) (size : ℕ) (v : View) (u w : UnitId) (r : ℕ) → State size first v → same_unit u w ≡ false → has_put u r (open_puts v.log) ≡ true → has_put w r (open_puts v.log) ≡ false
 lock-other first size v u w r state differ put =
-    false-or-true (has_put w r (open_puts v.log))
-    (λ e. true-not-false (other_has_put w r (open_puts v.log)) (put-found u w r (open_puts v.log) differ put) (state.undone.locked w r e))
+    false-if (has_put w r (open_puts v.log))
+    (λ e. no-clash (other_has_put w r (open_puts v.log)) (put-found u w r (open_puts v.log) differ put) (state.undone.locked w r e))
 
 -- a row that is left is one that was there, of another unit
 left-row : (unit u : UnitId) (r : ℕ) (rows : List Row) → has_put u r (without unit rows) ≡ true → (has_put u r rows ≡ true) × (same_unit u unit ≡ false)
@@ -123,16 +124,7 @@ backout-last first v unit last u r put but =
     last u r parts.0 (turned u parts.1)
   where
     turned : (u : UnitId) → same_unit u unit ≡ false → same_unit unit u ≡ false
-    turned u differ = false-or-true (same_unit unit u) (λ e. true-not-false (same_unit u unit) (subst (λ (w : UnitId). same_unit w unit ≡ true) (same_unit-true unit u e) (same_unit-refl unit)) differ)
-
-same-put : (u unit : UnitId) (k rrn : ℕ) (slot before : List ℕ) → ◌≡◌ {A = Option LogRec} (Some (Put u k slot)) (Some (Put unit rrn before)) → (u ≡ unit) × (k ≡ rrn)
-same-put u unit k rrn slot before same = (cc, cc)
-
-same-commit : (u unit : UnitId) → ◌≡◌ {A = Option LogRec} (Some (Commit u)) (Some (Commit unit)) → u ≡ unit
-same-commit u unit same = cc
-
-same-backout : (u unit : UnitId) → ◌≡◌ {A = Option LogRec} (Some (Backout u)) (Some (Backout unit)) → u ≡ unit
-same-backout u unit same = cc
+    turned u differ = false-if (same_unit unit u) (λ e. no-clash (same_unit u unit) (subst (λ (w : UnitId). same_unit w unit ≡ true) (same_unit-true unit u e) (same_unit-refl unit)) differ)
 
 pub open-last : (first : ℕ → Option (List ℕ)) (size : ℕ) (v : View) (plan : Plan) (slot : List ℕ) (rec : LogRec) → State size first v → RecordDue size first v rec
     → record_of_plan plan slot ≡ Some rec → RollLast first v plan
@@ -163,7 +155,7 @@ write-last first size v unit k value state open_yet own last u r put but =
     same-k i j e = grind (arith, common_steps)
 
     turn : (i j : ℕ) → (i == j) ≡ false → (j == i) ≡ false
-    turn i j e = false-or-true (j == i) (λ f. true-not-false (i == j) (subst (λ (n : ℕ). (i == n) ≡ true) (sym (same-k j i f)) (self i)) e)
+    turn i j e = false-if (j == i) (λ f. no-clash (i == j) (subst (λ (n : ℕ). (i == n) ≡ true) (sym (same-k j i f)) (self i)) e)
       where
         self : (i : ℕ) → (i == i) ≡ true
         self i = grind (arith, common_steps)
@@ -172,7 +164,7 @@ write-last first size v unit k value state open_yet own last u r put but =
     turn-true i j e = grind (arith, common_steps)
 
     uncommitted : list_any (same_unit unit) (committed v.log) ≡ false
-    uncommitted = no-true (list_any (same_unit unit) (committed v.log)) (λ e. true-not-false (has_ended unit v.log) (committed-ended unit v.log e) open_yet)
+    uncommitted = false-if (list_any (same_unit unit) (committed v.log)) (λ e. no-clash (has_ended unit v.log) (committed-ended unit v.log e) open_yet)
 
     others : (w : UnitId) → same_unit unit w ≡ false → (if same_unit unit w && true then (k, value) ∷ v.puts w else v.puts w) ≡ v.puts w
     others w e = rw e refl
@@ -185,7 +177,7 @@ write-last first size v unit k value state open_yet own last u r put but =
         ≡ slot_of (value_after r (if is && true then (k, value) ∷ v.puts u else v.puts u) (value_by (λ w. if same_unit unit w && true then (k, value) ∷ v.puts w else v.puts w) r (committed v.log) (first r)))
     by true true e f = let g : (k == r) ≡ true = turn-true r k e in rw g refl
     by true false e f =
-        true-not-false (has_put u k (open_puts v.log)) (subst (λ (n : ℕ). has_put u n (open_puts v.log) ≡ true) (same-k r k e) put) (lock-other first size v unit u k state f own)
+        no-clash (has_put u k (open_puts v.log)) (subst (λ (n : ℕ). has_put u n (open_puts v.log) ≡ true) (same-k r k e) put) (lock-other first size v unit u k state f own)
     by false true e f =
         let g : (k == r) ≡ false = turn r k e in
         rw g (last u r put (rw f g) ∙ ap (λ (x : Option (List ℕ)). slot_of (value_after r (v.puts u) x)) (sym book))
@@ -200,7 +192,7 @@ undo-last first size v unit rrn own state here last u r put but = by (r == rrn) 
     same-k i j e = grind (arith, common_steps)
 
     by : (b : Bool) → (r == rrn) ≡ b → (elim b [ true ↦ own | false ↦ v.image r ]) ≡ slot_of (value_after r (v.puts u) (value_at first v r))
-    by true e = true-not-false (has_put u rrn (open_puts v.log)) (subst (λ (n : ℕ). has_put u n (open_puts v.log) ≡ true) (same-k r rrn e) put) (lock-other first size v unit u rrn state but here)
+    by true e = no-clash (has_put u rrn (open_puts v.log)) (subst (λ (n : ℕ). has_put u n (open_puts v.log) ≡ true) (same-k r rrn e) put) (lock-other first size v unit u rrn state but here)
     by false e = last u r put but
 
 pub roll-last : (first : ℕ → Option (List ℕ)) (v : View) (p : Settings) (unit : UnitId) (place : ℕ) (rows : List Undo) → LastBut (λ u r. same_unit unit u) first v

@@ -1,5 +1,5 @@
 -- The ledger of a job at work against the log.
-use Rattle.std.proofs.Common.{Bool, List, ap, cond, false, filter, length, map, refl, true, ◌≡◌, [], ◌∷◌, not, ℕ, ◌==◌, ◌&&◌, ◌||◌, ◌∙◌, if◌then◌else◌, sym, ◌++◌, subst, arith, ◌+◌, ◌≤◌, Some, Option, ◌<◌}
+use Rattle.std.proofs.Common.{Bool, List, ap, cond, false, filter, length, map, refl, true, ◌≡◌, [], ◌∷◌, not, ℕ, ◌==◌, ◌&&◌, ◌||◌, ◌∙◌, if◌then◌else◌, sym, ◌++◌, subst, arith, ◌+◌, ◌≤◌, Some, ◌<◌}
 use Rattle.std.specs.List.{list_any}
 use Rattle.std.proofs.lemmas.List.Sums.{length-filter}
 use Rattle.xrf_base.specs.declared.items.UnitId.{UnitId}
@@ -18,11 +18,12 @@ use Rattle.xrf_file.specs.Ledger.{least_number}
 use Rattle.xrf_trace.specs.Items.{numbered}
 use Rattle.xrf_log_law.specs.Work.{open_numbered, IsOpenUnit}
 use Rattle.xrf_log_law.specs.Undone.{other_has_put, undo_at, covers, has_put}
-use Rattle.xrf_log_law.proofs.Undoing.{true-not-false, false-or-true, same_unit-refl}
+use Rattle.xrf_log_law.proofs.Undoing.{same_unit-refl}
 use Rattle.xrf_log_law.proofs.Suffix.{found-passing}
-use Rattle.xrf_log_law.proofs.Ring.{eq-of-true}
 use Rattle.xrf_log_law.specs.Views.{nth_old}
 use Rattle.xrf_log_law.specs.State.{AreOver}
+use Rattle.xrf_log_law.proofs.Small.{eq-of-true, false-if, no-clash, of-not-false, or-none, or-parts}
+use Rattle.xrf_log_law.proofs.SameRecords.{same-put-unit}
 
 -- the numbered puts are the puts, with their numbers
 abbrev row_of : LoggedPut → Row
@@ -149,7 +150,7 @@ hot-rows q unit (Put u rrn before ∷ log) open_yet = by (q u) (same_unit u unit
         → is_hot unit (cond a (record { unit = u; number = length log; undo = record { rrn = rrn; before = before } } ∷ filter (λ put. q put.unit) (numbered log)) (filter (λ put. q put.unit) (numbered log)))
         ≡ (b || has_row unit log)
     by true b e f rest = rw f (ap (λ (c : Bool). b || c) rest)
-    by false true e f rest = true-not-false (q u) (subst (λ (v : UnitId). q v ≡ true) (sym (same_unit-true u unit f)) open_yet) e
+    by false true e f rest = no-clash (q u) (subst (λ (v : UnitId). q v ≡ true) (sym (same_unit-true u unit f)) open_yet) e
     by false false e f rest = rest
 hot-rows q unit (Commit u ∷ log) open_yet = hot-rows q unit log open_yet
 hot-rows q unit (Backout u ∷ log) open_yet = hot-rows q unit log open_yet
@@ -182,7 +183,7 @@ Distinct [] = Unit {0}
 Distinct (unit ∷ units) = (list_any (λ u. same_unit u unit) units ≡ false) × Distinct units
 
 filter-missing : (q : UnitId → Bool) (unit : UnitId) (units : List UnitId) → list_any (λ u. same_unit u unit) units ≡ false → list_any (λ u. same_unit u unit) (filter q units) ≡ false
-filter-missing q unit units none = false-or-true (list_any (λ u. same_unit u unit) (filter q units)) (λ e. true-not-false (list_any (λ u. same_unit u unit) units) (found-filter q unit units e) none)
+filter-missing q unit units none = false-if (list_any (λ u. same_unit u unit) (filter q units)) (λ e. no-clash (list_any (λ u. same_unit u unit) units) (found-filter q unit units e) none)
 
 filter-distinct : (q : UnitId → Bool) (units : List UnitId) → Distinct units → Distinct (filter q units)
 filter-distinct q [] distinct = tt
@@ -193,15 +194,7 @@ filter-distinct q (u ∷ units) distinct = by (q u) (filter-missing q u units di
     by false none rest = rest
 
 pub same-turned : (a b : UnitId) → same_unit a b ≡ false → same_unit b a ≡ false
-same-turned a b differ = false-or-true (same_unit b a) (λ e. true-not-false (same_unit a b) (subst (λ (w : UnitId). same_unit w b ≡ true) (same_unit-true b a e) (same_unit-refl b)) differ)
-
-or-none : (a b : Bool) → a ≡ false → b ≡ false → (a || b) ≡ false
-or-none true b e f = absurd (cc)
-or-none false b e f = f
-
-or-parts : (a b : Bool) → (a || b) ≡ false → (a ≡ false) × (b ≡ false)
-or-parts true b e = absurd (cc)
-or-parts false b e = (refl, e)
+same-turned a b differ = false-if (same_unit b a) (λ e. no-clash (same_unit a b) (subst (λ (w : UnitId). same_unit w b ≡ true) (same_unit-true b a e) (same_unit-refl b)) differ)
 
 last-distinct : (units : List UnitId) (unit : UnitId) → list_any (λ u. same_unit u unit) units ≡ false → Distinct units → Distinct (units ++ unit ∷ [])
 last-distinct [] unit none distinct = (refl, tt)
@@ -240,7 +233,7 @@ one-less u (w ∷ units) distinct = by (same_unit w u) refl (one-less u units di
 
 -- different ones that are all among some open units of a kind are no more than those
 filter-differs : (u unit : UnitId) (units : List UnitId) → Found unit (filter (λ w. not (same_unit w u)) units) → same_unit u unit ≡ false
-filter-differs u unit units found = false-or-true (same_unit u unit) (λ e. true-not-false (list_any (λ w. same_unit w unit) (filter (λ w. not (same_unit w u)) units)) found (gone u unit units e))
+filter-differs u unit units found = false-if (same_unit u unit) (λ e. no-clash (list_any (λ w. same_unit w unit) (filter (λ w. not (same_unit w u)) units)) found (gone u unit units e))
   where
     gone : (u unit : UnitId) (units : List UnitId) → same_unit u unit ≡ true → list_any (λ w. same_unit w unit) (filter (λ w. not (same_unit w u)) units) ≡ false
     gone u unit units e = subst (λ (v : UnitId). list_any (λ w. same_unit w v) (filter (λ w. not (same_unit w u)) units) ≡ false) (same_unit-true u unit e) (none u units)
@@ -266,7 +259,7 @@ of_kind p opens = filter (λ o. p o.unit) opens
 
 pub no-more : (p : UnitId → Bool) (opens : List OpenUnit) (units : List UnitId) → Distinct units → ((unit : UnitId) → Found unit units → IsOpenUnit unit opens × (p unit ≡ true))
     → length units ≤ length (of_kind p opens)
-no-more p [] units distinct all = omega (arith, none-length units (λ unit found. true-not-false false ((all unit found).0) refl))
+no-more p [] units distinct all = omega (arith, none-length units (λ unit found. no-clash false ((all unit found).0) refl))
 no-more p (o ∷ opens) units distinct all =
     let fewer : List UnitId = filter (λ w. not (same_unit w o.unit)) units in
     let rest : length fewer ≤ length (of_kind p opens) =
@@ -335,12 +328,6 @@ are-least : (n : ℕ) (puts : List LoggedPut) → AreLeast (least_number n puts)
 are-least n [] = tt
 are-least n (put ∷ puts) = (omega arith, least-lower (least_number n (put ∷ puts)) (least_number n puts) puts (omega arith) (are-least n puts))
 
-some-same : (a b : LogRec) → Some a ≡ Some b → a ≡ b
-some-same a b same = cc
-
-put-unit : (u unit : UnitId) (r rrn : ℕ) (b before : List ℕ) → ◌≡◌ {A = Option LogRec} (Some (Put u r b)) (Some (Put unit rrn before)) → u ≡ unit
-put-unit u unit r rrn b before same = cc
-
 number-over : (q : UnitId → Bool) (least : ℕ) (log : List LogRec) → AreLeast least (filter (λ put. q put.unit) (numbered log))
     → (k : ℕ) (unit : UnitId) (rrn : ℕ) (before : List ℕ) → k < least → nth_old log k ≡ Some (Put unit rrn before) → q unit ≡ false
 number-over q least [] are k unit rrn before early is = absurd (cc)
@@ -361,17 +348,13 @@ number-over q least (Put u r b ∷ log) are k unit rrn before early is =
         → AreLeast least (cond c (record { unit = u; number = length log; undo = record { rrn = r; before = b } } ∷ filter (λ put. q put.unit) (numbered log)) (filter (λ put. q put.unit) (numbered log)))
         → (AreLeast least (filter (λ put. q put.unit) (numbered log)) → nth_old log k ≡ Some (Put unit rrn before) → q unit ≡ false) → q unit ≡ false
     by true true e f is are rest = let same : k ≡ length log = eq-of-true k (length log) e in absurd (omega (arith, are.0))
-    by true false e f is are rest = ap q (sym (put-unit u unit r rrn b before is)) ∙ f
+    by true false e f is are rest = ap q (sym (same-put-unit u unit r rrn b before is)) ∙ f
     by false true e f is are rest = rest are.1 is
     by false false e f is are rest = rest are is
 
-not-turned : (b : Bool) → not b ≡ false → b ≡ true
-not-turned true e = refl
-not-turned false e = absurd (cc)
-
 pub oldest-over : (log : List LogRec) (n : ℕ) → AreOver (least_number n (open_numbered log)) log
 oldest-over log n k unit rrn before early is =
-    not-turned (has_ended unit log) (number-over (λ u. not (has_ended u log)) (least_number n (open_numbered log)) log (are-least n (open_numbered log)) k unit rrn before early is)
+    of-not-false (has_ended unit log) (number-over (λ u. not (has_ended u log)) (least_number n (open_numbered log)) log (are-least n (open_numbered log)) k unit rrn before early is)
 
 -- a roll of a unit: its rows
 pub own-rows : (log : List LogRec) (unit : UnitId) → undo_of unit (open_numbered log) ≡ map (λ (row : Row). row.undo) (filter (λ row. same_unit row.unit unit) (open_puts log))

@@ -49,3 +49,4 @@ mod Closing
 mod Ending
 mod Always
 mod LogLaw
+mod SameRecords

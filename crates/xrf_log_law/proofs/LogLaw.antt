@@ -26,7 +26,6 @@ use Rattle.xrf_log_law.proofs.Runs.{kept-kinds}
 use Rattle.xrf_log_law.proofs.Steady.{no-rows}
 use Rattle.xrf_log_law.proofs.Steps.{Kept, book-at}
 use Rattle.xrf_log_law.proofs.WorldRuns.{MayGo, go-kinds}
-
 -- at each RESTARTED the file is the book
 restarts : (s : Scen) (t : List Entry) (e : Entry) → Invariant s t → Step s t e → RestartsAtBook s t e
 restarts s t e k step = (by_kind s t e (λ e. Kept s t e) step (kept-kinds s t k)).book

@@ -22,14 +22,14 @@ use Rattle.xrf_trace.specs.Devices.{image}
 use Rattle.xrf_trace.specs.Words.{items_taken, now}
 use Rattle.xrf_trace.specs.Jobs.{handed, item_event, block_event}
 use Rattle.xrf_log_law.specs.Serving.{site_after, OfPlan, IsRead, Serving, given_last, Serves, site_view, IsWrite}
-use Rattle.xrf_log_law.proofs.Knowing.{of-item, and-left}
+use Rattle.xrf_log_law.proofs.Knowing.{of-item}
 use Rattle.xrf_log_law.proofs.Promised.{at-work, item-at, AtWork, of-now}
 use Rattle.xrf_log_law.proofs.Seq.{plan-hand}
 use Rattle.xrf_log_law.proofs.OfPlans.{next-of}
 use Rattle.xrf_trace.specs.UnitsAreItems.{EndsAs, IsNeverCommitted, StaysCommitted, answers_done, has_put}
 use Rattle.xrf_trace.specs.AtHand.{OfItem, item_at_hand, open_unit}
 use Rattle.xrf_log_law.specs.Closed.{IsShut}
-use Rattle.xrf_log_law.proofs.Answered.{cold-put, open-here, open-named, where-is, where-not}
+use Rattle.xrf_log_law.proofs.Answered.{cold-put, open-here, open-named}
 use Rattle.xrf_log_law.proofs.Shutting.{cold-shut, ended-shut}
 use Rattle.xrf_log_law.proofs.Told.{commit-commits, open-uncommitted}
 use Rattle.xrf_log_law.proofs.Before.{Before}
@@ -44,6 +44,8 @@ use Rattle.xrf_history.specs.declared.settings.Settings.{Settings}
 use Rattle.xrf_base.specs.declared.items.UnitId.{UnitId}
 use Rattle.xrf_file.specs.Rows.{is_hot}
 use Rattle.xrf_base.specs.declared.items.ItemAnswer.TheVariants.{Done}
+use Rattle.xrf_log_law.proofs.SameRecords.{same-backout, same-commit}
+use Rattle.xrf_log_law.proofs.Small.{and-left, where-is, where-not}
 use Rattle.xrf_base.specs.declared.items.Item.TheVariants as items
 use Rattle.xrf_file.specs.declared.answers.Plan.TheVariants as plans
 use Rattle.xrf_history.specs.declared.want.Want.TheVariants as want
@@ -183,12 +185,6 @@ put-means s t x h unit rrn value (plans.Roll u place) serves serving same = absu
 put-means s t x h unit rrn value (plans.Answer a) serves serving same = absurd same
 
 -- the record that ends a unit
-commit-parts : (u unit : UnitId) → ◌≡◌ {A = Option LogRec} (Some (Commit u)) (Some (Commit unit)) → u ≡ unit
-commit-parts u unit same = cc
-
-backout-parts : (u unit : UnitId) → ◌≡◌ {A = Option LogRec} (Some (Backout u)) (Some (Backout unit)) → u ≡ unit
-backout-parts u unit same = cc
-
 -- it shuts its unit
 shut-here : (s : Scen) (t : List Entry) (x : Site) (h : List Event) (w : Want) (place : ℕ) (rec : LogRec) (unit : UnitId) → AtWork s t x h w → is_restarted h ≡ true
     → IsOpenUnit unit (ledger (settings s x) h).units → IsShut (after_record rec (ledger (settings s x) h)) unit → ShutAt (settings s x) h (LogOpened place rec ∷ h) unit
@@ -201,7 +197,7 @@ end-means : (s : Scen) (t : List Entry) (x : Site) (h : List Event) (w : Want) (
 end-means s t x h w slot place (Put unit rrn before) plan b at working hand named serving = tt
 end-means s t x h w slot place (Commit unit) (plans.Commit u number) b at working hand named serving =
     let is : open_unit s t x serving.0 ≡ Some u = open-named s t x h w serving.0 at ∙ serving.2 named in
-    let same : u ≡ unit = commit-parts u unit hand in
+    let same : u ≡ unit = same-commit u unit hand in
     of-now (Ends (settings s x) (Commit unit ∷ log t) h (LogOpened place (Commit unit) ∷ h) (open_unit s t x)) (item_at_hand s t x) (items.Commit serving.0) (item-at s t x h _ b.serves serving.1).0
     (record {
       says = subst (StaysCommitted (Commit unit ∷ log t)) (sym is)
@@ -212,7 +208,7 @@ end-means s t x h w slot place (Commit unit) (plans.Commit u number) b at workin
     })
 end-means s t x h w slot place (Backout unit) (plans.Roll u number) b at working hand named serving =
     let is : open_unit s t x serving.0 ≡ Some u = open-named s t x h w serving.0 at ∙ serving.2 named in
-    let same : u ≡ unit = backout-parts u unit hand in
+    let same : u ≡ unit = same-backout u unit hand in
     of-now (Ends (settings s x) (Backout unit ∷ log t) h (LogOpened place (Backout unit) ∷ h) (open_unit s t x)) (item_at_hand s t x) (items.Roll serving.0) (item-at s t x h _ b.serves serving.1).0
     (record {
       says = subst (IsNeverCommitted (Backout unit ∷ log t)) (sym is) (open-uncommitted u (log t) (at.ledgers.unended u named));

@@ -27,7 +27,7 @@ use Rattle.xrf_log_law.specs.State.{State, View, log_part, AreOver}
 use Rattle.xrf_log_law.proofs.Ledgers.{hot-in_flight, flight-hot_with, locked-free, own-covers, own-rows, own-undone, least-le, oldest-over}
 use Rattle.xrf_log_law.specs.Duty.{PlanDue, RollDue, KeyDue}
 use Rattle.xrf_log_law.specs.Undone.{covers, undo_at}
-use Rattle.xrf_log_law.proofs.Small.{choose_if}
+use Rattle.xrf_log_law.proofs.Small.{choose_if, and-right}
 use Rattle.xrf_base.specs.declared.items.Item.TheVariants as items
 use Rattle.xrf_file.specs.declared.answers.Plan.TheVariants as plans
 
@@ -128,15 +128,11 @@ item-due size first v l (items.Roll name) state is last = by (unit_named name l.
         (end.0, subst (λ (p : List LoggedPut). RollDue first v unit (undo_of unit p)) (sym (same-puts (unit_named name l.units))) (roll-due first size v l unit state is end.1)))) (λ b. tt)
 item-due size first v l _ state is last = tt
 
-and-last : (a b : Bool) → (a && b) ≡ true → b ≡ true
-and-last true b e = e
-and-last false b e = absurd (cc)
-
 pub key-due : (size : ℕ) (first : ℕ → Option (List ℕ)) (v : View) (p : Settings) (h : List Event) → State size first v → Ledgers size v.log v.start (ledger p h)
     → last_keypoint p h ≡ record { number = v.number; start = v.start } → keypoint_due p h ≡ true → KeyDue v (next_keypoint p h)
 key-due size first v p h state is last due =
     let l : Ledger = ledger p h in
-    let less : l.start < oldest l = grind (arith, common_steps, and-last (is_restarted h && nat_le (p.limits.log / 2) (l.next - l.start)) (nat_lt l.start (oldest l)) due) in
+    let less : l.start < oldest l = grind (arith, common_steps, and-right (is_restarted h && nat_le (p.limits.log / 2) (l.next - l.start)) (nat_lt l.start (oldest l)) due) in
     record {
       next = ap (λ (k : Keypoint). k.number + 1) last;
       later = omega (arith, less, is.begins);

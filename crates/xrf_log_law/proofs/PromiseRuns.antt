@@ -26,7 +26,7 @@ use Rattle.xrf_log_law.specs.Jobs.{JobAfter, Stands}
 use Rattle.xrf_log_law.specs.Promises.{LedgerIs}
 use Rattle.xrf_log_law.specs.Serving.{ServeAll, Serves, site_view}
 use Rattle.xrf_log_law.specs.State.{view}
-use Rattle.xrf_log_law.proofs.Answered.{is-asked, of-no-ended, where-is}
+use Rattle.xrf_log_law.proofs.Answered.{is-asked, of-no-ended}
 use Rattle.xrf_log_law.proofs.Before.{Before}
 use Rattle.xrf_log_law.proofs.Joined.{joined}
 use Rattle.xrf_log_law.proofs.Meaning.{Same, answers-same}
@@ -34,6 +34,7 @@ use Rattle.xrf_log_law.proofs.Promised.{reads-book, takes-restarted}
 use Rattle.xrf_log_law.proofs.Steps.{before-next}
 use Rattle.xrf_trace.specs.Laws.{AnswersAlike}
 use Rattle.xrf_log_law.specs.Invariant.{Invariant}
+use Rattle.xrf_log_law.proofs.Small.{where-is}
 use Rattle.xrf_base.specs.declared.site.Site.TheVariants as site
 use Rattle.xrf_trace.specs.declared.entry.Act.TheVariants as act
 use Rattle.xrf_trace.specs.declared.entry.Land.TheVariants as land

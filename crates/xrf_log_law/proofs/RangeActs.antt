@@ -29,6 +29,7 @@ use Rattle.xrf_log_law.proofs.Promised.{reads-value}
 use Rattle.xrf_log_law.proofs.Seq.{plan-hand}
 use Rattle.xrf_log_law.proofs.Knowing.{restart-hand}
 use Rattle.xrf_trace.proofs.ScenarioLaws.{IsInRanges}
+use Rattle.xrf_log_law.proofs.SameRecords.{same-backout, same-commit, same-put}
 use Rattle.xrf_file.specs.declared.answers.Plan.TheVariants as plans
 
 -- a unit is of the job, or of one before
@@ -71,20 +72,11 @@ image-size s t l unit k before scen ranges state is last here due =
     let read = reads-value s t l unit k state is last here (ap (is_locked unit k) is.puts ∙ locked-free (log t) unit k ∙ due.2) in
     ap length (due.0 ∙ read) ∙ slot-size (value_after k (puts t unit) (book s t k)) (ranges.values unit k (book s t k) (book-value s t k (λ u o fits. ranges.values u k o fits) (scen.records k)))
 
-put-parts : (u unit : UnitId) (k rrn : ℕ) (slot before : List ℕ) → ◌≡◌ {A = Option LogRec} (Some (Put u k slot)) (Some (Put unit rrn before)) → (u ≡ unit) × (k ≡ rrn)
-put-parts u unit k rrn slot before same = (cc, cc)
-
-commit-parts : (u unit : UnitId) → ◌≡◌ {A = Option LogRec} (Some (Commit u)) (Some (Commit unit)) → u ≡ unit
-commit-parts u unit same = cc
-
-backout-parts : (u unit : UnitId) → ◌≡◌ {A = Option LogRec} (Some (Backout u)) (Some (Backout unit)) → u ≡ unit
-backout-parts u unit same = cc
-
 work-ranged : (s : Scen) (t : List Entry) (x : Site) (h : List Event) (slot : List ℕ) (rec : LogRec) (plan : Plan) → IsInRanges s → InRanges s t → State s.settings.log (first_value s) (view s t) → Working s t x h
     → record_of_plan plan slot ≡ Some rec → PlanRrn s.settings.file plan → PlanNamed (ledger (settings s x) h).units plan → RollLast (first_value s) (view s t) plan → RecordDue s.settings.log (first_value s) (view s t) rec
     → HandRanged (number h) (log t) true rec
 work-ranged s t x h slot (Put unit rrn before) (plans.Put u k value place) scen ranges state w hand fits named last due =
-    let parts = put-parts u unit k rrn slot before hand in
+    let parts = same-put u unit k rrn slot before hand in
     let here : IsOpenUnit unit (ledger (settings s x) h).units = subst (λ (q : UnitId). IsOpenUnit q (ledger (settings s x) h).units) parts.0 named in
     let own = open-unit s t x h unit w here in
     record {
@@ -99,10 +91,10 @@ work-ranged s t x h slot (Put unit rrn before) (plans.Put u k value place) scen 
       of = own.1;
     }
 work-ranged s t x h slot (Commit unit) (plans.Commit u place) scen ranges state w hand fits named last due =
-    let own = open-unit s t x h unit w (subst (λ (q : UnitId). IsOpenUnit q (ledger (settings s x) h).units) (commit-parts u unit hand) named) in
+    let own = open-unit s t x h unit w (subst (λ (q : UnitId). IsOpenUnit q (ledger (settings s x) h).units) (same-commit u unit hand) named) in
     record { ranged = own.0; of = own.1 }
 work-ranged s t x h slot (Backout unit) (plans.Roll u place) scen ranges state w hand fits named last due =
-    let own = open-unit s t x h unit w (subst (λ (q : UnitId). IsOpenUnit q (ledger (settings s x) h).units) (backout-parts u unit hand) named) in
+    let own = open-unit s t x h unit w (subst (λ (q : UnitId). IsOpenUnit q (ledger (settings s x) h).units) (same-backout u unit hand) named) in
     record { ranged = own.0; of = own.1 }
 work-ranged s t x h slot rec (plans.Get k) scen ranges state w hand fits named last due = absurd (cc)
 work-ranged s t x h slot rec (plans.Answer a) scen ranges state w hand fits named last due = absurd (cc)

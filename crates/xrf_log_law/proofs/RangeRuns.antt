@@ -23,12 +23,9 @@ use Rattle.xrf_trace.specs.Acts.{act_of}
 use Rattle.xrf_trace.specs.Landing.{opens}
 use Rattle.xrf_trace.proofs.ByKind.{made, is_quiet, Kinds, MayLand}
 use Rattle.xrf_log_law.proofs.RangeActs.{IsOf}
-use Rattle.xrf_log_law.proofs.Ring.{eq-of-true}
-use Rattle.xrf_log_law.proofs.Seq.{no-clash}
-use Rattle.xrf_log_law.proofs.Keep.{no-true}
 use Rattle.xrf_log_law.specs.Ranges.{uses, IsFresh, InRanges, AreUnits}
 use Rattle.xrf_log_law.proofs.RangeSteps.{open-hand, units-after, Below, below-after, Valued, values-after}
-use Rattle.xrf_log_law.proofs.Knowing.{of-item, and-left}
+use Rattle.xrf_log_law.proofs.Knowing.{of-item}
 use Rattle.xrf_trace.specs.Each.{AtSite, OfJob}
 use Rattle.xrf_log_law.proofs.Before.{Before}
 use Rattle.xrf_log_law.proofs.SitesAfter.{OwnAfter, sites-after, fail-after, tick-after, own-other, quiet-after}
@@ -36,19 +33,18 @@ use Rattle.xrf_log_law.proofs.Steps.{before-next}
 use Rattle.xrf_trace.specs.Entries.{entry, inc_at}
 use Rattle.std.specs.Prelude.{[]}
 use Rattle.xrf_log_law.specs.Invariant.{Invariant}
+use Rattle.xrf_log_law.proofs.Small.{and-left, eq-of-true, false-if, false-true, no-clash}
 use Rattle.xrf_base.specs.declared.site.Site.TheVariants as site
 use Rattle.xrf_history.specs.declared.want.Want.TheVariants as want
 use Rattle.xrf_trace.specs.declared.entry.Land.TheVariants as land
 use Rattle.xrf_trace.specs.declared.entry.Act.TheVariants as act
 use Rattle.xrf_setup.specs.declared.choice.Choice.TheVariants as choice
 
-false-true : {P : Type 0} → false ≡ true → P
-false-true e = absurd (cc)
 
 -- a record of another incarnation
 of-other : (log : List LogRec) (n g : ℕ) (restarted : Bool) (unit : UnitId) → IsOf n log unit restarted → (restarted ≡ true → n ≡ g → ⊥) → uses g log ≡ false → (unit.inc == g) ≡ false
-of-other log n g true unit of differ unused = no-true (unit.inc == g) (λ e. differ refl (sym of ∙ eq-of-true unit.inc g e))
-of-other log n g false unit of differ unused = no-true (unit.inc == g) (λ e. no-clash (uses g log) (subst (λ (i : ℕ). uses i log ≡ true) (eq-of-true unit.inc g e) of) unused)
+of-other log n g true unit of differ unused = false-if (unit.inc == g) (λ e. differ refl (sym of ∙ eq-of-true unit.inc g e))
+of-other log n g false unit of differ unused = false-if (unit.inc == g) (λ e. no-clash (uses g log) (subst (λ (i : ℕ). uses i log ≡ true) (eq-of-true unit.inc g e) of) unused)
 
 joins-fresh : (log : List LogRec) (n g : ℕ) (restarted : Bool) (rec : LogRec) (b : Bool) → IsOf n log (unit_of rec) restarted → (restarted ≡ true → n ≡ g → ⊥) → uses g log ≡ false → uses g (if b then rec ∷ log else log) ≡ false
 joins-fresh log n g restarted rec true of differ unused = ap (λ (c : Bool). c || uses g log) (of-other log n g restarted (unit_of rec) of differ unused) ∙ unused
@@ -65,7 +61,7 @@ fresh-act s t x h l (want.CtlWrite written) n fresh = λ granted going. by (is_g
   where
     by : (b : Bool) → is_granted h ≡ b → is_restarted h ≡ false → uses (if b then number h else written.last) (log t) ≡ false
     by true is going = fresh is going
-    by false is going = no-true (uses written.last (log t)) (λ used. (let below = n.ranges.below written.last used in let above = (n.writes written refl).last_of_grant is in absurd (omega (arith, below, above))))
+    by false is going = false-if (uses written.last (log t)) (λ used. (let below = n.ranges.below written.last used in let above = (n.writes written refl).last_of_grant is in absurd (omega (arith, below, above))))
 fresh-act s t x h l (want.LogRead k) n fresh = by (has_read_block h)
   where
     by : (b : Bool) → IsFresh (log t) (block_event s t k b ∷ h)

@@ -28,11 +28,10 @@ use Rattle.xrf_log_law.specs.Ranges.{AreUnits, uses}
 use Rattle.xrf_log_law.proofs.Serve.{sound-for}
 use Rattle.xrf_log_law.specs.State.{view, RecordDue}
 use Rattle.xrf_log_law.specs.Jobs.{is_idle, InRange}
-use Rattle.xrf_log_law.proofs.Knowing.{and-left, of-item}
+use Rattle.xrf_log_law.proofs.Knowing.{of-item}
 use Rattle.xrf_log_law.proofs.RangeActs.{HandRanged, hand-ranged, IsOf}
 use Rattle.xrf_log_law.specs.Work.{LastAt, NamedAt, PlanNamed, RollLast}
 use Rattle.xrf_log_law.proofs.Begun.{next-last, next-named}
-use Rattle.xrf_log_law.proofs.Ring.{eq-of-true}
 use Rattle.xrf_log_law.specs.Serving.{IsWrite, Serves, Serving, given_last, site_view, OfPlan}
 use Rattle.xrf_log_law.proofs.Promised.{item-at}
 use Rattle.xrf_log_law.proofs.OfPlans.{next-of}
@@ -40,8 +39,10 @@ use Rattle.xrf_log_law.proofs.Before.{Before, last-rises}
 use Rattle.xrf_base.specs.declared.items.Item.{Item}
 use Rattle.xrf_owner_law.specs.Owner.{IsHeld}
 use Rattle.xrf_trace.proofs.ScenarioLaws.{IsInRanges, IsItem}
+use Rattle.xrf_log_law.proofs.Small.{and-left, eq-of-true}
 use Rattle.xrf_file.specs.declared.answers.Plan.TheVariants as plans
 use Rattle.xrf_history.specs.declared.want.Want.TheVariants as want
+
 
 pub writer-held : (s : Scen) (t : List Entry) (x : Site) (h : List Event) (w : Want) → Before s t x h w → is_active h ≡ true → IsHeld (control t) (confirmed t) (number h)
 writer-held s t x h w n there = n.held (owner-granted h (and-left (is_owner h) _ there))

@@ -25,32 +25,26 @@ use Rattle.xrf_trace.specs.declared.entry.Land.{Land}
 use Rattle.xrf_trace.specs.Words.{is_of}
 use Rattle.xrf_log_law.specs.Work.{IsOpenUnit}
 use Rattle.xrf_log_law.proofs.Steady.{found-last, open-left}
-use Rattle.xrf_log_law.proofs.Keep.{same-is}
-use Rattle.xrf_log_law.proofs.Small.{choose_if}
+use Rattle.xrf_log_law.proofs.Small.{choose_if, false-true, or-cases}
 use Rattle.xrf_log_law.proofs.Joined.{ledger-records}
+use Rattle.xrf_logrec.proofs.LogLaws.{same_unit-true}
 use Rattle.xrf_base.specs.declared.items.Item.TheVariants as items
 use Rattle.xrf_file.specs.declared.answers.Plan.TheVariants as plans
 use Rattle.xrf_history.specs.declared.want.Want.TheVariants as want
 use Rattle.xrf_trace.specs.declared.entry.Act.TheVariants as act
 use Rattle.xrf_trace.specs.declared.entry.Land.TheVariants as land
 
+
 -- the units of a ledger are of its incarnation, and numbered from 1
 abbrev pub Units : Ledger → Type 0
 Units l = (unit : UnitId) → IsOpenUnit unit l.units → (unit.inc ≡ l.inc) × (1 ≤ unit.serial)
-
-false-true : {P : Type 0} → false ≡ true → P
-false-true e = absurd (cc)
-
-pub or-cases : {P : Type 0} (a b : Bool) → (a || b) ≡ true → (a ≡ true → P) → (b ≡ true → P) → P
-or-cases true b e f g = f refl
-or-cases false b e f g = g e
 
 units-opened : (l : Ledger) (name : List ℕ) → Units l → Units (opened l name)
 units-opened l name units unit here =
     or-cases (list_any (λ (o : OpenUnit). same_unit o.unit unit) l.units) (same_unit (record { inc = l.inc; serial = l.begun + 1 }) unit)
     (sym (found-last unit (record { name = name; unit = record { inc = l.inc; serial = l.begun + 1 } }) l.units) ∙ here)
     (λ e. units unit e)
-    (λ e. subst (λ (u : UnitId). (u.inc ≡ l.inc) × (1 ≤ u.serial)) (same-is (record { inc = l.inc; serial = l.begun + 1 }) unit e) (refl, omega arith))
+    (λ e. subst (λ (u : UnitId). (u.inc ≡ l.inc) × (1 ≤ u.serial)) (same_unit-true (record { inc = l.inc; serial = l.begun + 1 }) unit e) (refl, omega arith))
 
 units-begun : (l : Ledger) (name : List ℕ) (answer : ItemAnswer) → Units l → Units (after_begin l name answer)
 units-begun l name Done units = units-opened l name units

@@ -15,20 +15,13 @@ use Rattle.xrf_trace.specs.Book.{value_after}
 use Rattle.xrf_log_law.specs.State.{AreOver, AreOrdered, View, RecordDue, value_at}
 use Rattle.xrf_log_law.proofs.Ring.{push-other}
 use Rattle.xrf_log_law.specs.Undone.{value_by, has_put, IsUndone}
-use Rattle.xrf_log_law.proofs.Undoing.{true-not-false, without, put-undone, put_row, end-undone}
-
-pub or-true : (a b : Bool) → b ≡ true → (a || b) ≡ true
-or-true true b e = refl
-or-true false b e = e
-
-pub or-false : (a b : Bool) → (a || b) ≡ false → (a ≡ false) × (b ≡ false)
-or-false true b e = absurd (cc)
-or-false false b e = (refl, e)
-
+use Rattle.xrf_log_law.proofs.Undoing.{without, put-undone, put_row, end-undone}
+use Rattle.xrf_history.proofs.Tests.{or-right}
+use Rattle.xrf_log_law.proofs.Small.{no-clash, or-parts}
 -- the units that have ended before the start stay so
 pub push-over : (start : ℕ) (log : List LogRec) (rec : LogRec) → start ≤ length log → AreOver start log → AreOver start (rec ∷ log)
 push-over start log rec within over k unit rrn before early is =
-    or-true (ends unit rec) (has_ended unit log) (over k unit rrn before early (sym (push-other log rec k (length log) refl (λ same. omega arith)) ∙ is))
+    or-right (ends unit rec) (has_ended unit log) (over k unit rrn before early (sym (push-other log rec k (length log) refl (λ same. omega arith)) ∙ is))
 
 -- room
 few : (unit : UnitId) (units : List UnitId) → length (filter (λ u. not (same_unit u unit)) units) ≤ length units
@@ -54,7 +47,7 @@ fewer unit (u ∷ units) found = by (same_unit u unit) (fewer unit units) found
 pub committed-ended : (unit : UnitId) (log : List LogRec) → list_any (same_unit unit) (committed log) ≡ true → has_ended unit log ≡ true
 committed-ended unit [] found = absurd (cc)
 committed-ended unit (Put u rrn before ∷ log) found = committed-ended unit log found
-committed-ended unit (Backout u ∷ log) found = or-true (same_unit unit u) (has_ended unit log) (committed-ended unit log found)
+committed-ended unit (Backout u ∷ log) found = or-right (same_unit unit u) (has_ended unit log) (committed-ended unit log found)
 committed-ended unit (Commit u ∷ log) found = by (list_any (same_unit u) (committed log)) (committed-ended unit log) found
   where
     last : (units : List UnitId) → list_any (same_unit unit) (units ++ u ∷ []) ≡ true → (same_unit unit u || list_any (same_unit unit) units) ≡ true
@@ -63,7 +56,7 @@ committed-ended unit (Commit u ∷ log) found = by (list_any (same_unit u) (comm
       where
         more : (b : Bool) → (list_any (same_unit unit) (units ++ u ∷ []) ≡ true → (same_unit unit u || list_any (same_unit unit) units) ≡ true)
             → (b || list_any (same_unit unit) (units ++ u ∷ [])) ≡ true → (same_unit unit u || (b || list_any (same_unit unit) units)) ≡ true
-        more true rest found = or-true (same_unit unit u) true refl
+        more true rest found = or-right (same_unit unit u) true refl
         more false rest found = rest found
 
     either : (a b : Bool) → (a || b) ≡ true → (b ≡ true → has_ended unit log ≡ true) → (a || has_ended unit log) ≡ true
@@ -72,7 +65,7 @@ committed-ended unit (Commit u ∷ log) found = by (list_any (same_unit u) (comm
 
     by : (b : Bool) → (list_any (same_unit unit) (committed log) ≡ true → has_ended unit log ≡ true)
         → list_any (same_unit unit) (if b then committed log else committed log ++ u ∷ []) ≡ true → (same_unit unit u || has_ended unit log) ≡ true
-    by true rest found = or-true (same_unit unit u) (has_ended unit log) (rest found)
+    by true rest found = or-right (same_unit unit u) (has_ended unit log) (rest found)
     by false rest found = either (same_unit unit u) (list_any (same_unit unit) (committed log)) (last (committed log) found) rest
 
 value_by-last : (puts : UnitId → List (ℕ × List ℕ)) (r : ℕ) (units : List UnitId) (unit : UnitId) (before : Option (List ℕ))
@@ -87,7 +80,7 @@ commit-value first puts log unit r open_yet = by (list_any (same_unit unit) (com
   where
     by : (b : Bool) → list_any (same_unit unit) (committed log) ≡ b
         → value_by puts r (if b then committed log else committed log ++ unit ∷ []) (first r) ≡ value_after r (puts unit) (value_by puts r (committed log) (first r))
-    by true e = true-not-false (has_ended unit log) (committed-ended unit log e) open_yet
+    by true e = no-clash (has_ended unit log) (committed-ended unit log e) open_yet
     by false e = value_by-last puts r (committed log) unit (first r)
 
 -- of another unit nothing goes
@@ -98,7 +91,7 @@ without-keeps unit u r (row ∷ rows) differ = by (same_unit row.unit unit) refl
     by : (b : Bool) → same_unit row.unit unit ≡ b → has_put u r (without unit rows) ≡ has_put u r rows
         → has_put u r (cond (not b) (row ∷ without unit rows) (without unit rows)) ≡ ((row.undo.rrn == r && same_unit row.unit u) || has_put u r rows)
     by true own rest =
-        let other : same_unit row.unit u ≡ false = no_more (same_unit row.unit u) (λ e. true-not-false (same_unit u unit) (subst (λ (w : UnitId). same_unit w unit ≡ true) (same_unit-true row.unit u e) own) differ) in
+        let other : same_unit row.unit u ≡ false = no_more (same_unit row.unit u) (λ e. no-clash (same_unit u unit) (subst (λ (w : UnitId). same_unit w unit ≡ true) (same_unit-true row.unit u e) own) differ) in
         rw other (rest ∙ nothing (row.undo.rrn == r))
       where
         no_more : (c : Bool) → (c ≡ true → ⊥) → c ≡ false
@@ -133,7 +126,7 @@ put-recorded size first v unit rrn before is due =
           (put-undone unit rrn before (open_puts v.log) v.image (λ r. slot_of (value_by v.puts r (committed v.log) (first r))) due.2 due.0 is.undone);
       unput = λ u r open_yet none x.
           is.unput u r open_yet
-          (or-false ((rrn == r) && same_unit unit u) (has_put u r (open_puts v.log)) (subst (λ (l : List Row). has_put u r l ≡ false) rows none)).1 x;
+          (or-parts ((rrn == r) && same_unit unit u) (has_put u r (open_puts v.log)) (subst (λ (l : List Row). has_put u r l ≡ false) rows none)).1 x;
     }
 
 commit-recorded : (size : ℕ) (first : ℕ → Option (List ℕ)) (v : View) (unit : UnitId) → Recorded size first v v.log
@@ -153,7 +146,7 @@ commit-recorded size first v unit is due =
           (λ r put. due.1 r put ∙ ap slot_of (sym (value r)))
           (λ r none. ap slot_of (sym (value r ∙ is.unput unit r open_yet none (value_at first v r)))) is.undone);
       unput = λ u r still none x.
-          (let parts = or-false (same_unit u unit) (has_ended u v.log) still in
+          (let parts = or-parts (same_unit u unit) (has_ended u v.log) still in
           is.unput u r parts.1 (sym (without-keeps unit u r (open_puts v.log) parts.0) ∙ subst (λ (l : List Row). has_put u r l ≡ false) rows none) x);
     }
 
@@ -170,7 +163,7 @@ backout-recorded size first v unit is due =
           subst (λ (l : List Row). IsUndone l v.image (λ r. slot_of (value_at first v r))) (sym rows)
           (end-undone unit (open_puts v.log) v.image (λ r. slot_of (value_at first v r)) (λ r. slot_of (value_at first v r)) due.1 (λ r none. refl) is.undone);
       unput = λ u r still none x.
-          (let parts = or-false (same_unit u unit) (has_ended u v.log) still in
+          (let parts = or-parts (same_unit u unit) (has_ended u v.log) still in
           is.unput u r parts.1 (sym (without-keeps unit u r (open_puts v.log) parts.0) ∙ subst (λ (l : List Row). has_put u r l ≡ false) rows none) x);
     }
 

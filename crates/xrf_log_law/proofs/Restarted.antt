@@ -17,9 +17,9 @@ use Rattle.xrf_log_law.specs.State.{State, View, log_part, booked}
 use Rattle.xrf_log_law.proofs.Scanning.{after_block-scan}
 use Rattle.xrf_log_law.specs.Undone.{covers, undo_at}
 use Rattle.xrf_log_law.proofs.Suffix.{scanned-all}
-use Rattle.xrf_log_law.proofs.Seq.{no-clash, covers-rest, dropped}
+use Rattle.xrf_log_law.proofs.Seq.{covers-rest, dropped}
 use Rattle.xrf_log_law.proofs.Undoing.{left-at}
-
+use Rattle.xrf_log_law.proofs.Small.{no-clash}
 filter-all : (p : UnitId → Bool) (units : List UnitId) → ((unit : UnitId) → p unit ≡ false) → filter (λ unit. not (p unit)) units ≡ units
 filter-all p [] none = refl
 filter-all p (unit ∷ units) none = let e : p unit ≡ false = none unit in rw e (ap (λ (l : List UnitId). unit ∷ l) (filter-all p units none))

@@ -12,7 +12,7 @@ use Rattle.xrf_trace.specs.Landing.{is_gate, opens, landed}
 use Rattle.xrf_trace.specs.Devices.{with_gate, with_body, close_at, body_at, open_at}
 use Rattle.xrf_trace.specs.declared.entry.Land.{Land}
 use Rattle.xrf_log_law.specs.Views.{AtEnd, HoldsLast, LogStands, LogView, nth_old}
-
+use Rattle.xrf_log_law.proofs.Small.{eq-false, eq-of-false, eq-of-true, eq-true}
 mul_step : (s a d : ℕ) → s * a + s ≤ s * (a + 1 + d)
 mul_step s a d = grind (arith, common_steps)
 
@@ -35,22 +35,6 @@ same_residue size n k same less = by (nat_lt (k / size) (n / size)) refl
     by false is =
         let above : n / size ≤ k / size = grind (arith, common_steps) in
         absurd (omega (arith, mul_mono size (n / size) (k / size) above, div-add-mod k size, div-add-mod n size))
-
-pub eq-of-true : (i j : ℕ) → (i == j) ≡ true → i ≡ j
-eq-of-true i j e = grind (arith, common_steps)
-
-pub eq-of-false : (i j : ℕ) → (i == j) ≡ false → i ≡ j → ⊥
-eq-of-false i j e same = grind (arith, common_steps)
-
-pub eq-true : (i j : ℕ) → i ≡ j → (i == j) ≡ true
-eq-true i j e = grind (arith, common_steps)
-
-pub eq-false : (i j : ℕ) → (i ≡ j → ⊥) → (i == j) ≡ false
-eq-false i j differ = by (i == j) refl
-  where
-    by : (b : Bool) → (i == j) ≡ b → b ≡ false
-    by true e = absurd (differ (eq-of-true i j e))
-    by false e = refl
 
 -- slots, of which one is changed
 abbrev pub changed_at : ℕ → (Slot → Slot) → (ℕ → Slot) → ℕ → Slot

@@ -1,5 +1,5 @@
 -- The invariant is kept by each entry of a run, and at each RESTARTED the file is the book.
-use Rattle.std.proofs.Common.{IfSome, List, None, Option, Some, arith, false, refl, true, ◌∷◌, ◌≡◌, ℕ, []}
+use Rattle.std.proofs.Common.{IfSome, List, None, Option, Some, arith, refl, true, ◌∷◌, ◌≡◌, ℕ, []}
 use Rattle.xrf_base.specs.declared.site.Site.{Site}
 use Rattle.xrf_setup.specs.declared.choice.Landing.{Landing}
 use Rattle.xrf_history.specs.Events.{Event, StartedActive, StartedStandby}
@@ -16,6 +16,7 @@ use Rattle.xrf_log_law.proofs.Ring.{first-stands}
 use Rattle.xrf_log_law.proofs.SitesAfter.{OwnAfter, quiet-after, tick-after}
 use Rattle.xrf_log_law.proofs.Steps.{Kept, act-step, sites-stand}
 use Rattle.xrf_log_law.specs.Invariant.{Invariant}
+use Rattle.xrf_log_law.proofs.Small.{false-true}
 use Rattle.xrf_base.specs.declared.site.Site.TheVariants as site
 use Rattle.xrf_setup.specs.declared.choice.Choice.TheVariants as choice
 use Rattle.xrf_trace.specs.declared.entry.Act.TheVariants as act
@@ -66,9 +67,6 @@ quiet-step s t x i a quiet stands = by a quiet (quiet-after s t x a (hist s t x)
     by _ quiet own = absurd (cc)
 
 -- a START
-false-true : {P : Type 0} → false ≡ true → P
-false-true e = absurd (cc)
-
 started_active : (s : Scen) (t : List Entry) (x : Site) → JobAfter s t x (view s t) (StartedActive ∷ [])
 started_active s t x = (λ e. false-true e, λ e. (refl, refl, λ unit. refl, refl), λ e. false-true e, λ e. tt, λ e. refl, λ e. false-true e)
 

@@ -14,9 +14,8 @@ use Rattle.xrf_logrec.specs.declared.records.LogRec.{LogRec}
 use Rattle.xrf_log.specs.Scan.{record_at, run_of, place_of_record, block_of_record, Scanned, after_block, next_of, reach_of, records_after}
 use Rattle.xrf_log_law.specs.Views.{nth_old, LogStands, LogView}
 use Rattle.xrf_log_law.specs.Part.{IsPart, IsScan}
-use Rattle.xrf_log_law.proofs.Ring.{some-within, eq-of-true}
-use Rattle.xrf_log_law.proofs.Small.{less-of-true, most-of-true}
-
+use Rattle.xrf_log_law.proofs.Ring.{some-within}
+use Rattle.xrf_log_law.proofs.Small.{less-of-true, most-of-true, eq-of-true}
 -- the slots in the bytes of a block
 mapped-flat : (f : ℕ → Slot) (xs : List ℕ) → flat_map (λ i. bytes_of (f i)) xs ≡ flat_map bytes_of (map f xs)
 mapped-flat f [] = refl

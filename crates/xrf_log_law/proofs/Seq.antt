@@ -40,21 +40,18 @@ use Rattle.xrf_trace.specs.Acts.{next_item, act_of}
 use Rattle.xrf_trace.specs.Devices.{image, message_slot}
 use Rattle.xrf_log_law.specs.Duty.{Due, JobView, RestartDue, KeyDue, IsOfPlan, PlanDue, RollDue, UndoDue, job_view, InsideDue}
 use Rattle.xrf_log_law.specs.State.{View, RecordDue, log_part, after, State, booked, view}
-use Rattle.xrf_log_law.proofs.Small.{choose, at_own}
+use Rattle.xrf_log_law.proofs.Small.{choose, at_own, no-clash}
 use Rattle.xrf_log_law.specs.Views.{AtEnd}
 use Rattle.xrf_log_law.specs.Undone.{has_put, covers, undo_at}
 use Rattle.xrf_log_law.proofs.Undoing.{same_unit-refl, left-at}
 use Rattle.xrf_log_law.proofs.Bound.{log_write-due}
 use Rattle.xrf_log_law.proofs.Keep.{has_put-covers, undo-state}
 use Rattle.xrf_log_law.specs.Due.{is_sound}
+use Rattle.xrf_log_law.proofs.SameRecords.{same-put}
 use Rattle.xrf_file.specs.declared.answers.Plan.TheVariants as plans
 use Rattle.xrf_history.specs.declared.want.Want.TheVariants as want
 use Rattle.xrf_trace.specs.declared.entry.Act.TheVariants as act
 use Rattle.xrf_trace.specs.declared.entry.Land.TheVariants as land
-
-pub no-clash : {P : Type 0} (b : Bool) → b ≡ true → b ≡ false → P
-no-clash true e f = absurd (cc)
-no-clash false e f = absurd (cc)
 
 -- sequences of other acts
 write-due : (size : ℕ) (first : ℕ → Option (List ℕ)) (v : View) (j : JobView) (o : Option ControlRecord) → Due size first v j (write_next o)
@@ -110,9 +107,6 @@ body-due size first v j place rec spelled at due closed hand restart = (
     moved (Backout unit) due = due
 
 -- the write of a put that is logged
-same-put : (u unit : UnitId) (k rrn : ℕ) (slot before : List ℕ) → ◌≡◌ {A = Option LogRec} (Some (Put u k slot)) (Some (Put unit rrn before)) → (u ≡ unit) × (k ≡ rrn)
-same-put u unit k rrn slot before same = (cc, cc)
-
 put-there : (v : View) (unit : UnitId) (rrn : ℕ) (before : List ℕ) → has_ended unit v.log ≡ false → has_put unit rrn (open_puts (Put unit rrn before ∷ v.log)) ≡ true
 put-there v unit rrn before open_yet =
     let row : Row = record { unit = unit; undo = record { rrn = rrn; before = before } } in

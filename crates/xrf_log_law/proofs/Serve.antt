@@ -24,7 +24,7 @@ use Rattle.xrf_trace.specs.Acts.{act_of}
 use Rattle.xrf_log_law.specs.Jobs.{Idle, is_idle}
 use Rattle.xrf_log_law.specs.Serving.{Serves, site_view, given_last, site_after, ServesWork, opened_of, Serving}
 use Rattle.xrf_log_law.specs.Due.{is_sound}
-use Rattle.xrf_log_law.proofs.Seq.{no-clash, plan-hand}
+use Rattle.xrf_log_law.proofs.Seq.{plan-hand}
 use Rattle.xrf_log_law.proofs.Knowing.{of-item, by-write}
 use Rattle.xrf_log_law.proofs.Joined.{joined, planned-keeps, record-inc}
 use Rattle.xrf_log_law.proofs.Served.{item-there, serving-keyed, serving-planned, serving-recorded}
@@ -32,13 +32,11 @@ use Rattle.xrf_log_law.proofs.Begun.{restarted-owner}
 use Rattle.xrf_log_law.proofs.Idle.{AfterIdle, act-idle}
 use Rattle.xrf_log_law.proofs.Before.{Before}
 use Rattle.xrf_log_law.proofs.SitesAfter.{Goes}
+use Rattle.xrf_log_law.proofs.Small.{false-true, no-clash}
 use Rattle.xrf_file.specs.declared.answers.Plan.TheVariants as plans
 use Rattle.xrf_history.specs.declared.want.Want.TheVariants as want
 use Rattle.xrf_trace.specs.declared.entry.Land.TheVariants as land
 use Rattle.xrf_trace.specs.declared.entry.Act.TheVariants as act
-
-false-true : {P : Type 0} → false ≡ true → P
-false-true e = absurd (cc)
 
 pub sound-for : (h : List Event) (w : Want) → (is_sound h ≡ false → Idle w) → is_idle w ≡ false → is_sound h ≡ true
 sound-for h w idle acts = by (is_sound h) refl

@@ -20,16 +20,14 @@ use Rattle.xrf_log_law.proofs.Before.{Before}
 use Rattle.xrf_log_law.proofs.Knowing.{of-item}
 use Rattle.xrf_log_law.proofs.Serve.{Served, served-after}
 use Rattle.xrf_log_law.proofs.SitesAfter.{Goes, OwnAfter, fail-after, full-after, own-other, quiet-after, quiet-other, tick-after}
-use Rattle.xrf_log_law.proofs.Steps.{and-sound, before-next, unsound}
+use Rattle.xrf_log_law.proofs.Steps.{before-next, unsound}
 use Rattle.xrf_log_law.specs.Invariant.{Invariant}
+use Rattle.xrf_log_law.proofs.Small.{and-left, false-true}
 use Rattle.xrf_base.specs.declared.site.Site.TheVariants as site
 use Rattle.xrf_setup.specs.declared.choice.Choice.TheVariants as choice
 use Rattle.xrf_history.specs.declared.want.Want.TheVariants as want
 use Rattle.xrf_trace.specs.declared.entry.Act.TheVariants as act
 use Rattle.xrf_trace.specs.declared.entry.Land.TheVariants as land
-
-false-true : {P : Type 0} → false ≡ true → P
-false-true e = absurd (cc)
 
 -- of the job of a site, after an act there
 abbrev OwnServes : Scen → List Entry → Site → Option (List Event) → Land → Act → Type 0
@@ -43,10 +41,10 @@ fail-serves : (s : Scen) (t : List Entry) (x : Site) (h : List Event) (cut : Lan
 fail-serves s t x h cut want.Nothing k = tt
 fail-serves s t x h cut (want.Exit told) k = tt
 fail-serves s t x h cut want.Item k = of-item s t x (FailServes s t x h cut want.Item) (λ fails. false-true fails)
-fail-serves s t x h cut (want.MsgRead n) k = λ fails. (k.0, k.1, λ there sound working. k.2 there (and-sound _ _ sound) working, λ none. tt)
-fail-serves s t x h cut (want.MsgClose n) k = λ fails. (k.0, k.1, λ there sound working. k.2 there (and-sound _ _ sound) working, λ none. tt)
-fail-serves s t x h cut (want.MsgBody n message) k = λ fails. (k.0, k.1, λ there sound working. k.2 there (and-sound _ _ sound) working, λ none. tt)
-fail-serves s t x h cut (want.MsgOpen n message) k = λ fails. (k.0, k.1, λ there sound working. k.2 there (and-sound _ _ sound) working, λ none. tt)
+fail-serves s t x h cut (want.MsgRead n) k = λ fails. (k.0, k.1, λ there sound working. k.2 there (and-left _ _ sound) working, λ none. tt)
+fail-serves s t x h cut (want.MsgClose n) k = λ fails. (k.0, k.1, λ there sound working. k.2 there (and-left _ _ sound) working, λ none. tt)
+fail-serves s t x h cut (want.MsgBody n message) k = λ fails. (k.0, k.1, λ there sound working. k.2 there (and-left _ _ sound) working, λ none. tt)
+fail-serves s t x h cut (want.MsgOpen n message) k = λ fails. (k.0, k.1, λ there sound working. k.2 there (and-left _ _ sound) working, λ none. tt)
 fail-serves s t x h cut _ k = λ fails. (k.0, k.1, λ there sound. unsound h false there refl sound, λ none. tt)
 
 -- a signal that is lost

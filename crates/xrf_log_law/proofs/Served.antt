@@ -15,13 +15,14 @@ use Rattle.xrf_file.specs.declared.answers.Plan.{Plan}
 use Rattle.xrf_history.specs.Working.{after_record}
 use Rattle.xrf_history.specs.Next.{record_of_plan}
 use Rattle.xrf_log_law.specs.Serving.{Serving}
-use Rattle.xrf_log_law.proofs.Small.{choose_if}
+use Rattle.xrf_log_law.proofs.Small.{choose_if, no-clash}
 use Rattle.xrf_log_law.specs.Work.{IsOpenUnit}
-use Rattle.xrf_log_law.proofs.Seq.{no-clash}
 use Rattle.xrf_log_law.proofs.Steady.{open-left}
 use Rattle.xrf_log_law.proofs.Undoing.{same_unit-refl}
+use Rattle.xrf_log_law.proofs.SameRecords.{same-backout, same-commit}
 use Rattle.xrf_base.specs.declared.items.Item.TheVariants as items
 use Rattle.xrf_file.specs.declared.answers.Plan.TheVariants as plans
+
 
 -- an item that is planned
 same-some : (a b : UnitId) → Some a ≡ Some b → a ≡ b
@@ -66,12 +67,6 @@ serving-planned l (items.Begin name) = tt
 serving-planned l _ = tt
 
 -- a record of the plan joins the log
-same-commit : (u unit : UnitId) → ◌≡◌ {A = Option LogRec} (Some (Commit u)) (Some (Commit unit)) → u ≡ unit
-same-commit u unit same = cc
-
-same-backout : (u unit : UnitId) → ◌≡◌ {A = Option LogRec} (Some (Backout u)) (Some (Backout unit)) → u ≡ unit
-same-backout u unit same = cc
-
 pub gone : {P : Type 0} (u unit : UnitId) (units : List OpenUnit) → u ≡ unit → IsOpenUnit u (without_unit unit units) → P
 gone u unit units same here =
     let left = open-left u unit units here in

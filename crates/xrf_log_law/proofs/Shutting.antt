@@ -13,11 +13,12 @@ use Rattle.xrf_file.specs.Rows.{is_hot, unit_named}
 use Rattle.xrf_file.specs.declared.rows.OpenUnit.{OpenUnit}
 use Rattle.xrf_history.specs.Working.{after_record}
 use Rattle.xrf_log_law.specs.Closed.{IsShut}
-use Rattle.xrf_log_law.proofs.Ranged.{or-cases}
 use Rattle.xrf_log_law.proofs.Served.{gone}
 use Rattle.xrf_log_law.proofs.Steady.{found-last, new-differs, open-left}
-use Rattle.xrf_log_law.proofs.Seq.{no-clash}
+use Rattle.xrf_log_law.proofs.Small.{no-clash, or-cases}
 use Rattle.xrf_base.specs.declared.items.Item.TheVariants as items
+
+
 
 -- a BEGIN opens another unit
 shut-opened : (l : Ledger) (name : List ℕ) (unit : UnitId) → IsShut l unit → IsShut (opened l name) unit

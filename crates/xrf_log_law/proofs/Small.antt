@@ -7,6 +7,7 @@ use Rattle.xrf_history.proofs.Tests.{or_else-some}
 use Rattle.xrf_history.specs.Events.{Event, Exited, Given, ActFailed, Abended}
 use Rattle.xrf_history.specs.Holding.{is_owner}
 use Rattle.xrf_log_law.specs.Due.{is_sound}
+use Rattle.xrf_trace.specs.Each.{Where}
 use Rattle.xrf_exit.specs.declared.ExitAnswer.TheVariants as exit
 
 -- a fact of a choice between two
@@ -63,3 +64,104 @@ sound-by h none = by (is_sound h) refl
     by : (b : Bool) → is_sound h ≡ b → b ≡ true
     by true e = refl
     by false e = absurd (none-not_some (sign_off_due h) none (unsound-off h e))
+
+-- from a false premise
+pub false-true : {P : Type 0} → false ≡ true → P
+false-true e = absurd (cc)
+
+-- a test is not both met and not met
+pub no-clash : {P : Type 0} (b : Bool) → b ≡ true → b ≡ false → P
+no-clash true e f = absurd (cc)
+no-clash false e f = absurd (cc)
+
+-- a test that can't be met is not
+pub false-if : (b : Bool) → (b ≡ true → ⊥) → b ≡ false
+false-if true f = absurd (f refl)
+false-if false f = refl
+
+-- a test that is not met is met turned round
+pub not-of-false : (b : Bool) → b ≡ false → not b ≡ true
+not-of-false true e = absurd (cc)
+not-of-false false e = refl
+
+-- a test that is met turned round is not met
+pub of-not : (b : Bool) → not b ≡ true → b ≡ false
+of-not true e = absurd (cc)
+of-not false e = refl
+
+-- and one that is not met turned round is
+pub of-not-false : (b : Bool) → not b ≡ false → b ≡ true
+of-not-false true e = refl
+of-not-false false e = absurd (cc)
+
+-- the first of two tests that are met
+pub and-left : (a b : Bool) → (a && b) ≡ true → a ≡ true
+and-left true b e = refl
+and-left false b e = absurd (cc)
+
+-- the second of two tests that are met
+pub and-right : (a b : Bool) → (a && b) ≡ true → b ≡ true
+and-right true b e = e
+and-right false b e = absurd (cc)
+
+-- neither of two tests is met
+pub or-none : (a b : Bool) → a ≡ false → b ≡ false → (a || b) ≡ false
+or-none true b e f = absurd (cc)
+or-none false b e f = f
+
+-- where neither is met each is not
+pub or-parts : (a b : Bool) → (a || b) ≡ false → (a ≡ false) × (b ≡ false)
+or-parts true b e = absurd (cc)
+or-parts false b e = (refl, e)
+
+-- where one of two is met, by cases
+pub or-cases : {P : Type 0} (a b : Bool) → (a || b) ≡ true → (a ≡ true → P) → (b ≡ true → P) → P
+or-cases true b e f g = f refl
+or-cases false b e f g = g e
+
+-- a second test that is not met adds nothing
+pub or-of-false : (a b : Bool) → b ≡ false → (a || b) ≡ a
+or-of-false true b e = refl
+or-of-false false b e = e
+
+-- numbers that are found equal are
+pub eq-of-true : (i j : ℕ) → (i == j) ≡ true → i ≡ j
+eq-of-true i j e = grind (arith, common_steps)
+
+-- numbers that are not found equal are not
+pub eq-of-false : (i j : ℕ) → (i == j) ≡ false → i ≡ j → ⊥
+eq-of-false i j e same = grind (arith, common_steps)
+
+-- equal numbers are found so
+pub eq-true : (i j : ℕ) → i ≡ j → (i == j) ≡ true
+eq-true i j e = grind (arith, common_steps)
+
+-- other numbers are not found equal
+pub eq-false : (i j : ℕ) → (i ≡ j → ⊥) → (i == j) ≡ false
+eq-false i j differ = by (i == j) refl
+  where
+    by : (b : Bool) → (i == j) ≡ b → b ≡ false
+    by true e = absurd (differ (eq-of-true i j e))
+    by false e = refl
+
+-- a fact that holds holds where a test is met
+pub where-is : (b : Bool) (P : Type 0) → P → Where b P
+where-is true P p = p
+where-is false P p = tt
+
+-- nothing is said where a test is not met
+pub where-not : (b : Bool) (P : Type 0) → b ≡ false → Where b P
+where-not true P e = absurd (cc)
+where-not false P e = tt
+
+-- nor where the second of two is not met
+pub where-none : (b c : Bool) (fact : Type 0) → c ≡ false → Where (b && c) fact
+where-none true true fact none = absurd (cc)
+where-none true false fact none = tt
+where-none false c fact none = tt
+
+-- a fact that follows from another where a test is met
+pub where-later : (b : Bool) (fact later : Type 0) → (fact → later) → Where b fact → Where b later
+where-later true fact later on holds = on holds
+where-later false fact later on holds = tt
+

@@ -17,13 +17,11 @@ use Rattle.xrf_file.specs.Rows.{is_hot, without_unit, without_puts, unit_named}
 use Rattle.xrf_file.specs.declared.rows.OpenUnit.{OpenUnit}
 use Rattle.xrf_trace.specs.Items.{numbered}
 use Rattle.xrf_log_law.specs.Work.{IsOpenUnit, Ledgers, open_numbered}
-use Rattle.xrf_log_law.proofs.Undoing.{true-not-false, false-or-true, same_unit-refl}
+use Rattle.xrf_log_law.proofs.Undoing.{same_unit-refl}
 use Rattle.xrf_log_law.proofs.Ledgers.{hot-in_flight}
+use Rattle.xrf_history.proofs.Tests.{or-right}
+use Rattle.xrf_log_law.proofs.Small.{false-if, no-clash, or-none}
 use Rattle.xrf_base.specs.declared.items.Item.TheVariants as items
-
-second : (a b : Bool) → b ≡ true → (a || b) ≡ true
-second true b e = refl
-second false b e = e
 
 -- a put is logged
 pub logged-ledger : (size : ℕ) (log : List LogRec) (start : ℕ) (l : Ledger) (unit : UnitId) (rrn : ℕ) (before : List ℕ) → IsOpenUnit unit l.units → Ledgers size log start l
@@ -59,7 +57,7 @@ open-kept unit u (o ∷ units) differ found = by (same_unit o.unit u) (same_unit
   where
     by : (gone is : Bool) → same_unit o.unit u ≡ gone → same_unit o.unit unit ≡ is → (IsOpenUnit unit units → IsOpenUnit unit (without_unit u units)) → (is || list_any (λ (q : OpenUnit). same_unit q.unit unit) units) ≡ true
         → list_any (λ (q : OpenUnit). same_unit q.unit unit) (cond (not gone) (o ∷ without_unit u units) (without_unit u units)) ≡ true
-    by true true e f rest found = true-not-false (same_unit unit u) (subst (λ (w : UnitId). same_unit w u ≡ true) (same_unit-true o.unit unit f) e) differ
+    by true true e f rest found = no-clash (same_unit unit u) (subst (λ (w : UnitId). same_unit w u ≡ true) (same_unit-true o.unit unit f) e) differ
     by true false e f rest found = rest found
     by false true e f rest found = rw f refl
     by false false e f rest found = rw f (rest found)
@@ -71,7 +69,7 @@ open-left unit u (o ∷ units) found = by (same_unit o.unit u) (same_unit o.unit
     by : (gone is : Bool) → same_unit o.unit u ≡ gone → same_unit o.unit unit ≡ is → (IsOpenUnit unit (without_unit u units) → IsOpenUnit unit units × (same_unit unit u ≡ false))
         → list_any (λ (q : OpenUnit). same_unit q.unit unit) (cond (not gone) (o ∷ without_unit u units) (without_unit u units)) ≡ true
         → ((is || list_any (λ (q : OpenUnit). same_unit q.unit unit) units) ≡ true) × (same_unit unit u ≡ false)
-    by true is e f rest found = let parts = rest found in (second is (list_any (λ (q : OpenUnit). same_unit q.unit unit) units) parts.0, parts.1)
+    by true is e f rest found = let parts = rest found in (or-right is (list_any (λ (q : OpenUnit). same_unit q.unit unit) units) parts.0, parts.1)
     by false true e f rest found = (refl, subst (λ (w : UnitId). same_unit w u ≡ false) (same_unit-true o.unit unit f) e)
     by false false e f rest found = rest (sym (rw f refl) ∙ found)
 
@@ -81,17 +79,13 @@ hot-left unit u (o ∷ puts) found = by (same_unit o.unit u) (same_unit o.unit u
   where
     by : (gone is : Bool) → same_unit o.unit u ≡ gone → same_unit o.unit unit ≡ is → (is_hot unit (without_puts u puts) ≡ true → (is_hot unit puts ≡ true) × (same_unit unit u ≡ false))
         → is_hot unit (cond (not gone) (o ∷ without_puts u puts) (without_puts u puts)) ≡ true → ((is || is_hot unit puts) ≡ true) × (same_unit unit u ≡ false)
-    by true is e f rest found = let parts = rest found in (second is (is_hot unit puts) parts.0, parts.1)
+    by true is e f rest found = let parts = rest found in (or-right is (is_hot unit puts) parts.0, parts.1)
     by false true e f rest found = (refl, subst (λ (w : UnitId). same_unit w u ≡ false) (same_unit-true o.unit unit f) e)
     by false false e f rest found = rest (sym (rw f refl) ∙ found)
 
-or-none : (a b : Bool) → a ≡ false → b ≡ false → (a || b) ≡ false
-or-none true b e f = absurd (cc)
-or-none false b e f = f
-
 pub new-differs : (inc serial begun : ℕ) (unit : UnitId) → unit.serial ≤ begun → begun < serial → same_unit (record { inc = inc; serial = serial }) unit ≡ false
 new-differs inc serial begun unit small more =
-    false-or-true (same_unit (record { inc = inc; serial = serial }) unit)
+    false-if (same_unit (record { inc = inc; serial = serial }) unit)
     (λ e. (let same : serial ≡ unit.serial = ap (λ (u : UnitId). u.serial) (same_unit-true (record { inc = inc; serial = serial }) unit e) in absurd (omega (arith, same, small, more))))
 
 ended-ledger : (size : ℕ) (log later : List LogRec) (start : ℕ) (l : Ledger) (unit : UnitId) → IsOpenUnit unit l.units → length later ≡ length log + 1
@@ -172,7 +166,7 @@ closed-ledger size log start l unit cold is = record {
 }
   where
     differs : (u : UnitId) → is_hot u l.puts ≡ true → same_unit u unit ≡ false
-    differs u hot = false-or-true (same_unit u unit) (λ e. true-not-false (is_hot unit l.puts) (subst (λ (w : UnitId). is_hot w l.puts ≡ true) (same_unit-true u unit e) hot) cold)
+    differs u hot = false-if (same_unit u unit) (λ e. no-clash (is_hot unit l.puts) (subst (λ (w : UnitId). is_hot w l.puts ≡ true) (same_unit-true u unit e) hot) cold)
 
 end-ledger : (size : ℕ) (log : List LogRec) (start : ℕ) (l : Ledger) (o : Option UnitId) → Ledgers size log start l → Ledgers size log start (after_end l o)
 end-ledger size log start l None is = is

@@ -33,15 +33,15 @@ use Rattle.xrf_trace.specs.Entries.{inc_at}
 use Rattle.xrf_log_law.specs.Jobs.{Idle, is_idle, Stands, InRange, IsSized, JobAfter}
 use Rattle.xrf_log_law.specs.State.{View, after, view, key_after, key_number, State, booked}
 use Rattle.xrf_log_law.proofs.Begun.{AtWorkAfter, work-stands, next-last, next-named}
-use Rattle.xrf_log_law.proofs.Knowing.{InRestart, InSequence, KnowsNone, ReadsAsOwner, StaysIdle, idle-after, inside-after, read-after, restart-after, unread-after, not-ended, of-item, and-left}
+use Rattle.xrf_log_law.proofs.Knowing.{InRestart, InSequence, KnowsNone, ReadsAsOwner, StaysIdle, idle-after, inside-after, read-after, restart-after, unread-after, not-ended, of-item}
 use Rattle.xrf_log_law.specs.Due.{is_sound}
 use Rattle.xrf_log_law.specs.Duty.{Restarts, known, IsUnread, Due, job_view}
 use Rattle.xrf_log_law.specs.Work.{Working, Last, LastAt}
 use Rattle.xrf_log_law.proofs.Acting.{writes_data, Lands, act-state}
 use Rattle.xrf_log_law.proofs.Bound.{boundary-due, idle-due}
 use Rattle.xrf_log_law.proofs.Planned.{key-due, items-due}
-use Rattle.xrf_log_law.proofs.Small.{sound-by}
-use Rattle.xrf_log_law.proofs.Seq.{ItemGives, ItemsDue, act-after, no-clash, After}
+use Rattle.xrf_log_law.proofs.Small.{sound-by, and-left, no-clash}
+use Rattle.xrf_log_law.proofs.Seq.{ItemGives, ItemsDue, act-after, After}
 use Rattle.xrf_log_law.proofs.Counted.{in_range, key-count}
 use Rattle.xrf_log_law.proofs.Idle.{next-idle, unsound-idle}
 use Rattle.xrf_log_law.proofs.Sized.{sized as sized_of}
@@ -88,10 +88,6 @@ unsound h message there none sound = by (is_owner h) (has_signed_off h) (is_soun
     by true false true false there none sound = absurd (cc)
     by false f d m there none sound = absurd (cc)
 
-pub and-sound : (a b : Bool) → (a && b) ≡ true → a ≡ true
-and-sound true b e = refl
-and-sound false b e = absurd (cc)
-
 abbrev pub Failed : Scen → List Entry → Site → List Event → Landing → Want → Act → Type 0
 Failed s t x h cut w a = JobAfter s t x (after s.settings.log a (land.Fail cut) (view s t)) (ActFailed w (now t) ∷ h)
 
@@ -108,10 +104,10 @@ fail-restart : (s : Scen) (t : List Entry) (x : Site) (h : List Event) (cut : La
 fail-restart s t x h cut want.Nothing b = tt
 fail-restart s t x h cut (want.Exit told) b = tt
 fail-restart s t x h cut want.Item b = of-item s t x (λ a. FailedRestart s t x h (after s.settings.log a (land.Fail cut) (view s t)) want.Item) (λ there sound. unsound h false there refl sound)
-fail-restart s t x h cut (want.MsgRead k) b = λ there sound read going. b.stands.2 there (and-sound (is_sound h) _ sound) read going
-fail-restart s t x h cut (want.MsgClose k) b = λ there sound read going. b.stands.2 there (and-sound (is_sound h) _ sound) read going
-fail-restart s t x h cut (want.MsgBody k message) b = λ there sound read going. b.stands.2 there (and-sound (is_sound h) _ sound) read going
-fail-restart s t x h cut (want.MsgOpen k message) b = λ there sound read going. b.stands.2 there (and-sound (is_sound h) _ sound) read going
+fail-restart s t x h cut (want.MsgRead k) b = λ there sound read going. b.stands.2 there (and-left (is_sound h) _ sound) read going
+fail-restart s t x h cut (want.MsgClose k) b = λ there sound read going. b.stands.2 there (and-left (is_sound h) _ sound) read going
+fail-restart s t x h cut (want.MsgBody k message) b = λ there sound read going. b.stands.2 there (and-left (is_sound h) _ sound) read going
+fail-restart s t x h cut (want.MsgOpen k message) b = λ there sound read going. b.stands.2 there (and-left (is_sound h) _ sound) read going
 fail-restart s t x h cut _ b = λ there sound. unsound h false there refl sound
 
 abbrev FailedWork : Scen → List Entry → Site → List Event → View → Want → Type 0
@@ -122,10 +118,10 @@ fail-work : (s : Scen) (t : List Entry) (x : Site) (h : List Event) (cut : Landi
 fail-work s t x h cut want.Nothing b = tt
 fail-work s t x h cut (want.Exit told) b = tt
 fail-work s t x h cut want.Item b = of-item s t x (λ a. FailedWork s t x h (after s.settings.log a (land.Fail cut) (view s t)) want.Item) (λ there sound. unsound h false there refl sound)
-fail-work s t x h cut (want.MsgRead n) b = λ there sound working. (let d = and-sound (is_sound h) _ sound in let w = b.stands.5 there d working in (w.0, w.1, b.values there d working, tt))
-fail-work s t x h cut (want.MsgClose n) b = λ there sound working. (let d = and-sound (is_sound h) _ sound in let w = b.stands.5 there d working in (w.0, w.1, b.values there d working, tt))
-fail-work s t x h cut (want.MsgBody n message) b = λ there sound working. (let d = and-sound (is_sound h) _ sound in let w = b.stands.5 there d working in (w.0, w.1, b.values there d working, tt))
-fail-work s t x h cut (want.MsgOpen n message) b = λ there sound working. (let d = and-sound (is_sound h) _ sound in let w = b.stands.5 there d working in (w.0, w.1, b.values there d working, tt))
+fail-work s t x h cut (want.MsgRead n) b = λ there sound working. (let d = and-left (is_sound h) _ sound in let w = b.stands.5 there d working in (w.0, w.1, b.values there d working, tt))
+fail-work s t x h cut (want.MsgClose n) b = λ there sound working. (let d = and-left (is_sound h) _ sound in let w = b.stands.5 there d working in (w.0, w.1, b.values there d working, tt))
+fail-work s t x h cut (want.MsgBody n message) b = λ there sound working. (let d = and-left (is_sound h) _ sound in let w = b.stands.5 there d working in (w.0, w.1, b.values there d working, tt))
+fail-work s t x h cut (want.MsgOpen n message) b = λ there sound working. (let d = and-left (is_sound h) _ sound in let w = b.stands.5 there d working in (w.0, w.1, b.values there d working, tt))
 fail-work s t x h cut _ b = λ there sound. unsound h false there refl sound
 
 pub failed-stands : (s : Scen) (t : List Entry) (x : Site) (h : List Event) (cut : Landing) (w : Want) → Before s t x h w → IfSome (act_of s t x h w) (Failed s t x h cut w)
@@ -220,10 +216,6 @@ writer-due s t x h state stands there =
       restart = λ going ended. (stands.2 there (sound-by h none) (ended-reads s x h stands.1 ended) going).undoing ended;
       work = λ restarted due. (let w = stands.5 there (sound-by h none) restarted in key-due s.settings.log (first_value s) (view s t) (settings s x) h state w.0 w.1 due);
     }))
-
-pub some-bool : (b : Bool) → (b ≡ true → ⊥) → b ≡ false
-some-bool true f = absurd (f refl)
-some-bool false f = refl
 
 -- what an ITEM is given
 item-gives : (T : Type 0) (first : ℕ → Option (List ℕ)) (v : View) (plan : Plan) (w : Want) (P : Type 0) → (P → LastAt first v plan w) → (P → Last first v → T) → ItemGives w (P → T)

@@ -10,11 +10,12 @@ use Rattle.xrf_logrec.specs.LogRecords.{same_unit}
 use Rattle.xrf_logrec.proofs.LogLaws.{same_unit-true}
 use Rattle.xrf_log.specs.Flight.{ends, has_ended, puts, open_puts, put_units, flight}
 use Rattle.xrf_log.specs.declared.taken.Row.{Row}
-use Rattle.xrf_log_law.proofs.Ring.{eq-true, push-other}
+use Rattle.xrf_log_law.proofs.Ring.{push-other}
 use Rattle.xrf_log_law.specs.Views.{nth_old}
 use Rattle.xrf_log_law.specs.Part.{IsPart}
 use Rattle.xrf_log_law.specs.State.{AreOrdered, AreOver}
-
+use Rattle.xrf_log_law.proofs.SameRecords.{same-record}
+use Rattle.xrf_log_law.proofs.Small.{eq-true}
 -- a whole part is the newest of the log
 pub record Newest (log : List LogRec) (start : ℕ) (records : List LogRec) : Type 0 where
   pub older : List LogRec
@@ -23,9 +24,6 @@ pub record Newest (log : List LogRec) (start : ℕ) (records : List LogRec) : Ty
 
 nth_old-last : (log : List LogRec) (rec : LogRec) → nth_old (rec ∷ log) (length log) ≡ Some rec
 nth_old-last log rec = let e : (length log == length log) ≡ true = eq-true (length log) (length log) refl in rw e refl
-
-some-same : (a b : LogRec) → Some a ≡ Some b → a ≡ b
-some-same a b same = cc
 
 pub newest : (log : List LogRec) (start : ℕ) (records : List LogRec) → IsPart log start records → start + length records ≡ length log → Newest log start records
 newest log start [] part all = record { older = log; split = refl; count = omega arith }
@@ -41,7 +39,7 @@ newest (first ∷ log) start (rec ∷ records) part all =
           ∙ push-other log first (start + j) (length log) refl (λ e. omega (arith, count));
     } in
     let rest = newest log start records smaller count in
-    record { older = rest.older; split = ap (λ (l : List LogRec). first ∷ l) rest.split ∙ ap (λ (r : LogRec). r ∷ (records ++ rest.older)) (sym (some-same rec first same)); count = rest.count }
+    record { older = rest.older; split = ap (λ (l : List LogRec). first ∷ l) rest.split ∙ ap (λ (r : LogRec). r ∷ (records ++ rest.older)) (sym (same-record rec first same)); count = rest.count }
 
 -- an end stands in one part or the other
 ended-split : (unit : UnitId) (records older : List LogRec) → has_ended unit (records ++ older) ≡ (has_ended unit records || has_ended unit older)

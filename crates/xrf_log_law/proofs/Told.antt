@@ -10,7 +10,8 @@ use Rattle.xrf_log.specs.declared.taken.Row.{Row}
 use Rattle.xrf_trace.specs.Log.{committed, is_committed}
 use Rattle.xrf_log_law.proofs.Undoing.{same_unit-refl}
 use Rattle.xrf_log_law.specs.Undone.{covers, has_put, other_has_put}
-
+use Rattle.xrf_history.proofs.Tests.{or-right}
+use Rattle.xrf_log_law.proofs.Small.{or-none, or-parts}
 -- a unit that has not ended is not committed
 pub any-last : (unit u : UnitId) (units : List UnitId) → list_any (same_unit unit) (units ++ u ∷ []) ≡ (list_any (same_unit unit) units || same_unit unit u)
 any-last unit u [] = or-none (same_unit unit u)
@@ -25,16 +26,6 @@ any-last unit u (w ∷ units) = by (same_unit unit w) (any-last unit u units)
     by true rest = refl
     by false rest = rest
 
-or-parts : (a b : Bool) → (a || b) ≡ false → (a ≡ false) × (b ≡ false)
-or-parts false false e = (refl, refl)
-or-parts true b e = absurd (cc)
-or-parts false true e = absurd (cc)
-
-or-none : (a b : Bool) → a ≡ false → b ≡ false → (a || b) ≡ false
-or-none false false e f = refl
-or-none true b e f = absurd (cc)
-or-none false true e f = absurd (cc)
-
 pub open-uncommitted : (unit : UnitId) (records : List LogRec) → has_ended unit records ≡ false → is_committed records unit ≡ false
 open-uncommitted unit [] e = refl
 open-uncommitted unit (Put u rrn before ∷ records) e = open-uncommitted unit records e
@@ -47,16 +38,12 @@ open-uncommitted unit (Commit u ∷ records) e =
     by true differ rest = rest
     by false differ rest = any-last unit u (committed records) ∙ or-none (list_any (same_unit unit) (committed records)) (same_unit unit u) rest differ
 
-second : (a b : Bool) → b ≡ true → (a || b) ≡ true
-second true b e = refl
-second false b e = e
-
 pub commit-commits : (unit : UnitId) (records : List LogRec) → is_committed (Commit unit ∷ records) unit ≡ true
 commit-commits unit records = by (list_any (same_unit unit) (committed records)) refl
   where
     by : (b : Bool) → list_any (same_unit unit) (committed records) ≡ b → list_any (same_unit unit) (if b then committed records else committed records ++ unit ∷ []) ≡ true
     by true e = e
-    by false e = any-last unit unit (committed records) ∙ second (list_any (same_unit unit) (committed records)) (same_unit unit unit) (same_unit-refl unit)
+    by false e = any-last unit unit (committed records) ∙ or-right (list_any (same_unit unit) (committed records)) (same_unit unit unit) (same_unit-refl unit)
 
 -- rows of no unit cover nothing
 pub none-covers : (unit : UnitId) (r : ℕ) (rows : List Row) → has_put unit r rows ≡ false → other_has_put unit r rows ≡ false → covers r (map (λ row. row.undo) rows) ≡ false

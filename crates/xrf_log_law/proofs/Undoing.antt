@@ -8,7 +8,7 @@ use Rattle.xrf_logrec.specs.LogRecords.{same_unit}
 use Rattle.xrf_logrec.proofs.LogLaws.{same_unit-true}
 use Rattle.xrf_log.specs.declared.taken.Row.{Row}
 use Rattle.xrf_log_law.specs.Undone.{covers, undo_at, has_put, other_has_put, AreLocked, IsUndone}
-
+use Rattle.xrf_log_law.proofs.Small.{eq-of-true, false-if, no-clash}
 -- where a row is of the record, what stood there does not matter
 pub covered-same : (r : ℕ) (rows : List Undo) (x y : List ℕ) → covers r rows ≡ true → undo_at r rows x ≡ undo_at r rows y
 covered-same r [] x y covered = absurd (cc)
@@ -73,14 +73,6 @@ any-filter p q (row ∷ rows) none = by (q row) (p row) refl (any-filter p q row
     by true false e rest none = rw e (rest none)
     by false false e rest none = rest none
 
-pub false-or-true : (b : Bool) → (b ≡ true → ⊥) → b ≡ false
-false-or-true true no_more = absurd (no_more refl)
-false-or-true false no_more = refl
-
-pub true-not-false : {P : Type 0} (b : Bool) → b ≡ true → b ≡ false → P
-true-not-false true e f = absurd (cc)
-true-not-false false e f = absurd (cc)
-
 pub without-locked : (unit : UnitId) (rows : List Row) → AreLocked rows → AreLocked (without unit rows)
 without-locked unit rows locked u r put =
     any-filter (λ row. row.undo.rrn == r && not (same_unit row.unit u)) (λ row. not (same_unit row.unit unit)) rows
@@ -89,7 +81,7 @@ without-locked unit rows locked u r put =
     by : (b : Bool) → has_put u r rows ≡ b → b ≡ true
     by true e = refl
     by false e =
-        true-not-false (has_put u r (without unit rows)) put
+        no-clash (has_put u r (without unit rows)) put
         (any-filter (λ row. row.undo.rrn == r && same_unit row.unit u) (λ row. not (same_unit row.unit unit)) rows e)
 
 -- a put joins, of a record that no other open unit has put
@@ -99,9 +91,6 @@ put_row u r b = record { unit = u; undo = record { rrn = r; before = b } }
 pub same_unit-refl : (u : UnitId) → same_unit u u ≡ true
 same_unit-refl u = grind (arith, common_steps)
 
-eq-is : (i j : ℕ) → (i == j) ≡ true → i ≡ j
-eq-is i j e = grind (arith, common_steps)
-
 -- of a unit that has put, another one finds it as another
 pub put-found : (u v : UnitId) (r : ℕ) (rows : List Row) → same_unit u v ≡ false → has_put u r rows ≡ true → other_has_put v r rows ≡ true
 put-found u v r [] differ put = absurd (cc)
@@ -110,7 +99,7 @@ put-found u v r (row ∷ rows) differ put = by (row.undo.rrn == r) (same_unit ro
     by : (here own own_v : Bool) → same_unit row.unit u ≡ own → same_unit row.unit v ≡ own_v → (has_put u r rows ≡ true → other_has_put v r rows ≡ true)
         → ((here && own) || has_put u r rows) ≡ true → ((here && not own_v) || other_has_put v r rows) ≡ true
     by true true true e f rest put =
-        true-not-false (same_unit u v) (subst (λ (w : UnitId). same_unit w v ≡ true) (same_unit-true row.unit u e) f) differ
+        no-clash (same_unit u v) (subst (λ (w : UnitId). same_unit w v ≡ true) (same_unit-true row.unit u e) f) differ
     by true true false e f rest put = refl
     by true false true e f rest put = rest put
     by true false false e f rest put = refl
@@ -121,12 +110,12 @@ push-locked u r b rows free locked v k put = by (r == k) (same_unit u v) refl re
   where
     by : (here own : Bool) → (r == k) ≡ here → same_unit u v ≡ own → ((here && own) || has_put v k rows) ≡ true → ((here && not own) || other_has_put v k rows) ≡ false
     by true true e f put =
-        subst (λ (n : ℕ). other_has_put v n rows ≡ false) (eq-is r k e) (subst (λ (w : UnitId). other_has_put w r rows ≡ false) (same_unit-true u v f) free)
+        subst (λ (n : ℕ). other_has_put v n rows ≡ false) (eq-of-true r k e) (subst (λ (w : UnitId). other_has_put w r rows ≡ false) (same_unit-true u v f) free)
     by true false e f put =
-        true-not-false (other_has_put u k rows) (put-found v u k rows (differ f) put) (subst (λ (n : ℕ). other_has_put u n rows ≡ false) (eq-is r k e) free)
+        no-clash (other_has_put u k rows) (put-found v u k rows (differ f) put) (subst (λ (n : ℕ). other_has_put u n rows ≡ false) (eq-of-true r k e) free)
       where
         differ : same_unit u v ≡ false → same_unit v u ≡ false
-        differ f = false-or-true (same_unit v u) (λ g. true-not-false (same_unit u v) (subst (λ (w : UnitId). same_unit w v ≡ true) (same_unit-true v u g) (same_unit-refl v)) f)
+        differ f = false-if (same_unit v u) (λ g. no-clash (same_unit u v) (subst (λ (w : UnitId). same_unit w v ≡ true) (same_unit-true v u g) (same_unit-refl v)) f)
     by false own e f put = locked v k put
 
 pub put-undone : (u : UnitId) (r : ℕ) (b : List ℕ) (rows : List Row) (image booked : ℕ → List ℕ) → other_has_put u r rows ≡ false → b ≡ image r
@@ -137,7 +126,7 @@ put-undone u r b rows image booked free read undone = record {
 }
   where
     by : (k : ℕ) (here : Bool) → (r == k) ≡ here → undo_at k (undos rows) (if here then b else image k) ≡ undo_at k (undos rows) (image k)
-    by k true e = ap (undo_at k (undos rows)) (read ∙ ap image (eq-is r k e))
+    by k true e = ap (undo_at k (undos rows)) (read ∙ ap image (eq-of-true r k e))
     by k false e = refl
 
 -- a record of an open put is written, whatever of it lands
@@ -149,7 +138,7 @@ write-undone r change rows image booked covered undone = record {
 }
   where
     by : (k : ℕ) (here : Bool) → (k == r) ≡ here → undo_at k (undos rows) (elim here [ true ↦ change (image k) | false ↦ image k ]) ≡ undo_at k (undos rows) (image k)
-    by k true e = covered-same k (undos rows) (change (image k)) (image k) (subst (λ (n : ℕ). covers n (undos rows) ≡ true) (sym (eq-is k r e)) covered)
+    by k true e = covered-same k (undos rows) (change (image k)) (image k) (subst (λ (n : ℕ). covers n (undos rows) ≡ true) (sym (eq-of-true k r e)) covered)
     by k false e = refl
 
 -- a unit ends: its rows go, and the book is the file at its records

@@ -15,10 +15,12 @@ use Rattle.xrf_trace.specs.Book.{puts, value_after, value_of_units, book}
 use Rattle.xrf_trace.specs.Scenario.{Scen, first_value}
 use Rattle.xrf_trace.specs.Log.{committed, log}
 use Rattle.xrf_log_law.specs.Ranges.{AreUnits, uses}
-use Rattle.xrf_log_law.proofs.Ring.{eq-true, eq-false, eq-of-false}
 use Rattle.xrf_log_law.proofs.Ledgers.{has_row, found-filter, units-rows}
-use Rattle.xrf_log_law.proofs.Keep.{same-is}
 use Rattle.xrf_log_law.specs.Undone.{value_by}
+use Rattle.xrf_history.proofs.Tests.{or-right}
+use Rattle.xrf_log_law.proofs.Small.{eq-false, eq-of-false, eq-true, or-parts}
+use Rattle.xrf_logrec.proofs.LogLaws.{same_unit-true}
+
 
 -- a slot has 32 bytes
 and-true : (a b : Bool) → (a && b) ≡ true → (a ≡ true) × (b ≡ true)
@@ -50,30 +52,21 @@ pub book-value : (s : Scen) (t : List Entry) (k : ℕ) → ((unit : UnitId) (o :
 book-value s t k values fits = units-value t k (committed (log t)) (first_value s k) values fits
 
 -- a unit in flight is one of the log
-second : (a b : Bool) → b ≡ true → (a || b) ≡ true
-second true b e = refl
-second false b e = e
-
 row-unit : (unit : UnitId) (records : List LogRec) → has_row unit records ≡ true → AreUnits records → IsUnit unit × (uses unit.inc records ≡ true)
 row-unit unit [] has are = absurd (cc)
 row-unit unit (Put u rrn before ∷ records) has are = by (same_unit u unit) refl has (λ e. row-unit unit records e are.0)
   where
     by : (b : Bool) → same_unit u unit ≡ b → (b || has_row unit records) ≡ true → (has_row unit records ≡ true → IsUnit unit × (uses unit.inc records ≡ true)) → IsUnit unit × ((u.inc == unit.inc || uses unit.inc records) ≡ true)
-    by true e has rest = (subst IsUnit (same-is u unit e) are.1, ap (λ (b : Bool). b || uses unit.inc records) (eq-true u.inc unit.inc (ap (λ (w : UnitId). w.inc) (same-is u unit e))))
-    by false e has rest = let found = rest has in (found.0, second (u.inc == unit.inc) (uses unit.inc records) found.1)
-row-unit unit (Commit u ∷ records) has are = let found = row-unit unit records has are.0 in (found.0, second (u.inc == unit.inc) (uses unit.inc records) found.1)
-row-unit unit (Backout u ∷ records) has are = let found = row-unit unit records has are.0 in (found.0, second (u.inc == unit.inc) (uses unit.inc records) found.1)
+    by true e has rest = (subst IsUnit (same_unit-true u unit e) are.1, ap (λ (b : Bool). b || uses unit.inc records) (eq-true u.inc unit.inc (ap (λ (w : UnitId). w.inc) (same_unit-true u unit e))))
+    by false e has rest = let found = rest has in (found.0, or-right (u.inc == unit.inc) (uses unit.inc records) found.1)
+row-unit unit (Commit u ∷ records) has are = let found = row-unit unit records has are.0 in (found.0, or-right (u.inc == unit.inc) (uses unit.inc records) found.1)
+row-unit unit (Backout u ∷ records) has are = let found = row-unit unit records has are.0 in (found.0, or-right (u.inc == unit.inc) (uses unit.inc records) found.1)
 
 pub flight-unit : (unit : UnitId) (records : List LogRec) → list_any (λ u. same_unit u unit) (flight records) ≡ true → AreUnits records → IsUnit unit × (uses unit.inc records ≡ true)
 flight-unit unit records found are =
     row-unit unit records (sym (units-rows unit records) ∙ found-filter (λ u. not (has_ended u records)) unit (put_units records) found) are
 
 -- an incarnation that no record is of has ended no unit
-or-parts : (a b : Bool) → (a || b) ≡ false → (a ≡ false) × (b ≡ false)
-or-parts false false e = (refl, refl)
-or-parts true b e = absurd (cc)
-or-parts false true e = absurd (cc)
-
 other-inc : (unit u : UnitId) → (u.inc == unit.inc) ≡ false → same_unit unit u ≡ false
 other-inc unit u e = ap (λ (b : Bool). b && unit.serial == u.serial) (eq-false unit.inc u.inc (λ same. eq-of-false u.inc unit.inc e (sym same)))
 

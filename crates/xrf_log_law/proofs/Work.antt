@@ -28,7 +28,7 @@ use Rattle.xrf_trace.specs.Words.{now, items_taken}
 use Rattle.xrf_trace.specs.Acts.{act_of}
 use Rattle.xrf_log_law.specs.Work.{IsOpenUnit, PlanNamed, Ledgers, NamedIn, LastIn, RollLast, Working, Last, LastAt, NamedAt}
 use Rattle.xrf_log_law.proofs.Planned.{named-open}
-use Rattle.xrf_log_law.proofs.Small.{choose_if, choose}
+use Rattle.xrf_log_law.proofs.Small.{choose_if, choose, no-clash}
 use Rattle.xrf_log_law.proofs.Steady.{backout-ledger, commit-ledger, logged-ledger, planned-ledger, keyed-ledger}
 use Rattle.xrf_log_law.specs.State.{State, View, after, view}
 use Rattle.xrf_log_law.specs.Duty.{UndoDue}
@@ -38,8 +38,9 @@ use Rattle.xrf_log_law.proofs.AtWork.{roll-named, item-named, idle-in, close-nam
 use Rattle.xrf_log_law.specs.Jobs.{Idle}
 use Rattle.xrf_log_law.proofs.Knowing.{of-item}
 use Rattle.xrf_log_law.proofs.Idle.{act-idle}
-use Rattle.xrf_log_law.proofs.Seq.{no-clash, plan-hand}
+use Rattle.xrf_log_law.proofs.Seq.{plan-hand}
 use Rattle.xrf_log_law.proofs.Before.{Before}
+use Rattle.xrf_log_law.proofs.SameRecords.{same-backout, same-commit, same-put-unit}
 use Rattle.xrf_base.specs.declared.items.Item.TheVariants as items
 use Rattle.xrf_file.specs.declared.answers.Plan.TheVariants as plans
 use Rattle.xrf_history.specs.declared.want.Want.TheVariants as want
@@ -83,27 +84,18 @@ plan-named l (items.Begin name) = tt
 plan-named l _ = tt
 
 -- the record of a plan joins the log
-put-parts : (u unit : UnitId) (k rrn : ℕ) (slot before : List ℕ) → ◌≡◌ {A = Option LogRec} (Some (Put u k slot)) (Some (Put unit rrn before)) → u ≡ unit
-put-parts u unit k rrn slot before same = cc
-
-commit-parts : (u unit : UnitId) → ◌≡◌ {A = Option LogRec} (Some (Commit u)) (Some (Commit unit)) → u ≡ unit
-commit-parts u unit same = cc
-
-backout-parts : (u unit : UnitId) → ◌≡◌ {A = Option LogRec} (Some (Backout u)) (Some (Backout unit)) → u ≡ unit
-backout-parts u unit same = cc
-
 record-ledger : (size : ℕ) (log : List LogRec) (start : ℕ) (l : Ledger) (plan : Plan) (slot : List ℕ) (rec : LogRec) → record_of_plan plan slot ≡ Some rec → PlanNamed l.units plan → Ledgers size log start l
     → Ledgers size (rec ∷ log) start (after_record rec l)
 record-ledger size log start l (plans.Put u k value place) slot (Put unit rrn before) hand named is =
-    logged-ledger size log start l unit rrn before (subst (λ (w : UnitId). IsOpenUnit w l.units) (put-parts u unit k rrn slot before hand) named) is
+    logged-ledger size log start l unit rrn before (subst (λ (w : UnitId). IsOpenUnit w l.units) (same-put-unit u unit k rrn slot before hand) named) is
 record-ledger size log start l (plans.Put u k value place) slot (Commit unit) hand named is = absurd (cc)
 record-ledger size log start l (plans.Put u k value place) slot (Backout unit) hand named is = absurd (cc)
 record-ledger size log start l (plans.Commit u place) slot (Commit unit) hand named is =
-    commit-ledger size log start l unit (subst (λ (w : UnitId). IsOpenUnit w l.units) (commit-parts u unit hand) named) is
+    commit-ledger size log start l unit (subst (λ (w : UnitId). IsOpenUnit w l.units) (same-commit u unit hand) named) is
 record-ledger size log start l (plans.Commit u place) slot (Put unit rrn before) hand named is = absurd (cc)
 record-ledger size log start l (plans.Commit u place) slot (Backout unit) hand named is = absurd (cc)
 record-ledger size log start l (plans.Roll u place) slot (Backout unit) hand named is =
-    backout-ledger size log start l unit (subst (λ (w : UnitId). IsOpenUnit w l.units) (backout-parts u unit hand) named) is
+    backout-ledger size log start l unit (subst (λ (w : UnitId). IsOpenUnit w l.units) (same-backout u unit hand) named) is
 record-ledger size log start l (plans.Roll u place) slot (Put unit rrn before) hand named is = absurd (cc)
 record-ledger size log start l (plans.Roll u place) slot (Commit unit) hand named is = absurd (cc)
 record-ledger size log start l (plans.Answer a) slot rec hand named is = absurd (cc)

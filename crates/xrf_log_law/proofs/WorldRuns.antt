@@ -1,5 +1,5 @@
 -- What the steps of a world ask of the log, the keypoints and the file, over whole runs.
-use Rattle.std.proofs.Common.{false, true, ◌≡◌, IfSome, List, Option, None, Some, subst, sym, ℕ, ◌∷◌, refl, arith, ◌≤◌}
+use Rattle.std.proofs.Common.{true, ◌≡◌, IfSome, List, Option, None, Some, subst, sym, ℕ, ◌∷◌, refl, arith, ◌≤◌}
 use Rattle.xrf_base.specs.declared.site.Site.{Site}
 use Rattle.xrf_history.specs.Events.{Event}
 use Rattle.xrf_history.specs.Restarting.{scan}
@@ -15,13 +15,11 @@ use Rattle.xrf_log_law.proofs.Worlds.{Fits, fits-after, may-be-written, reads-sl
 use Rattle.xrf_log_law.proofs.Steps.{before-next}
 use Rattle.xrf_log_law.proofs.SitesAfter.{tick-after, OwnAfter, own-after, goes-of, sites-after, own-other, quiet-after, quiet-other}
 use Rattle.xrf_log_law.specs.Invariant.{Invariant}
+use Rattle.xrf_log_law.proofs.Small.{false-true}
 use Rattle.xrf_base.specs.declared.site.Site.TheVariants as site
 use Rattle.xrf_setup.specs.declared.choice.Choice.TheVariants as choice
 use Rattle.xrf_trace.specs.declared.entry.Act.TheVariants as act
 use Rattle.xrf_trace.specs.declared.entry.Land.TheVariants as land
-
-false-true : {P : Type 0} → false ≡ true → P
-false-true e = absurd (cc)
 
 -- the scan of a job that a choice reaches
 quiet-fits : (s : Scen) (t : List Entry) (x : Site) (a : Act) (job : Option (List Event)) → is_quiet a ≡ true → IfSome job (Fitting s x)

@@ -24,7 +24,6 @@ use Rattle.xrf_trace.specs.Book.{book, puts, value_after}
 use Rattle.xrf_trace.specs.Jobs.{block_event, handed, item_event}
 use Rattle.xrf_trace.specs.declared.entry.Act.{Act}
 use Rattle.xrf_trace.specs.Words.{now, items_taken}
-use Rattle.xrf_log_law.proofs.Ring.{eq-of-true, eq-of-false}
 use Rattle.xrf_log_law.proofs.Knowing.{of-item, no-records}
 use Rattle.xrf_log_law.specs.Worlds.{MayBeWritten, IsSlot, ReadsSlot, ScanFits}
 use Rattle.xrf_log_law.proofs.Promised.{AtWork, reads-value, at-work}
@@ -46,8 +45,10 @@ use Rattle.xrf_log_law.proofs.Suffix.{scanned-all}
 use Rattle.xrf_log_law.proofs.Keys.{anchor}
 use Rattle.xrf_log_law.proofs.Before.{Before, log-some}
 use Rattle.xrf_base.specs.Ranges.{AreLimits}
+use Rattle.xrf_log_law.proofs.Small.{eq-of-false, eq-of-true}
 use Rattle.xrf_file.specs.declared.answers.Plan.TheVariants as plans
 use Rattle.xrf_history.specs.declared.want.Want.TheVariants as want
+
 
 -- the slots
 is-open : (slot : Slot) → is_open slot ≡ true → slot.gate ≡ OPEN

@@ -15,7 +15,7 @@ use Rattle.xrf_history.specs.Rows.{active_next, alternate_next, alternate_row, a
 use Rattle.xrf_history.specs.Sending.{may_write, message_due}
 use Rattle.xrf_history.specs.Taking.{is_draining}
 use Rattle.xrf_log_law.specs.Jobs.{Idle}
-use Rattle.xrf_log_law.proofs.Small.{choose, choose_if}
+use Rattle.xrf_log_law.proofs.Tests.{choose, choose_if}
 use Rattle.xrf_history.specs.declared.want.EndWhy.TheVariants as end
 use Rattle.xrf_history.specs.declared.want.Want.TheVariants as want
 

@@ -1,52 +1,52 @@
-pub mod Ring
-pub mod Small
-pub mod Sized
-pub mod Counted
-pub mod Undoing
-pub mod Scanning
-pub mod Recording
-pub mod Keys
-pub mod Suffix
-pub mod Keep
-pub mod Acting
+pub mod SlotWrites
+pub mod Tests
+pub mod BodySizes
+pub mod Counts
+pub mod BeforeImageLaws
+pub mod ScanLaws
+pub mod RecordLaws
+pub mod KeyWrites
+pub mod NewestParts
+pub mod StateWrites
+pub mod StateActs
 mod Boundaries
-pub mod Bound
-pub mod Seq
-pub mod Idle
-pub mod Restarted
-pub mod Knowing
-pub mod Steps
-mod Before
+pub mod DueAtBoundary
+pub mod DueInSequence
+pub mod IdleJobs
+pub mod RestartSteps
+pub mod JobActs
+pub mod InvariantActs
+mod BeforeActs
 mod SitesAfter
-pub mod Runs
-pub mod Ledgers
-pub mod Planned
-pub mod Lasting
-pub mod Steady
-pub mod AtWork
-pub mod Work
-pub mod Begun
-mod OfPlans
-mod Joined
-mod Served
-mod Serve
-mod ServeRuns
-pub mod Told
-mod Promised
-mod Answered
-mod Meaning
-pub mod PromiseRuns
-mod Ranged
-mod Values
+pub mod InvariantEntries
+pub mod LedgerLaws
+pub mod DueOfItems
+pub mod LastValues
+pub mod LedgerSteps
+pub mod WorkInSequence
+pub mod WorkActs
+pub mod WorkBegins
+mod ActsOfPlans
+mod TraceLedgers
+mod ServingSteps
+mod ServingActs
+mod ServingEntries
+pub mod EndsInLog
+mod ReadsLaw
+mod AskedLaw
+mod AnswersLaw
+pub mod PromiseEntries
+mod OwnRanges
+mod ValueRanges
+mod RecordRanges
 mod RangeActs
-mod RangeSteps
-mod RangeRuns
-mod Worlds
-pub mod WorldRuns
-pub mod FewKeys
-mod Shutting
-mod Closing
-mod Ending
-mod Always
+mod RangeEntries
+mod ConditionActs
+pub mod ConditionEntries
+pub mod KeyNumbers
+mod ShutUnits
+mod ClosedUnitsLaw
+mod EndsLaw
+mod InvariantLaw
 mod LogLaw
 mod SameRecords

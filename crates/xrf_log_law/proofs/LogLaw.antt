@@ -14,18 +14,18 @@ use Rattle.xrf_trace.proofs.ByKind.{by_kind}
 use Rattle.xrf_trace.proofs.Steps.{Step}
 use Rattle.xrf_trace.proofs.ScenarioLaws.{in_ranges}
 use Rattle.xrf_log_law.specs.Invariant.{Invariant}
-use Rattle.xrf_log_law.specs.Laws.{DataSetsAreSound, FileIsTheBook, ItemsAreAgreed, ItemsSeeTheBook, KeysAreFew, StepsMayGo, UnitsAreTheItems}
+use Rattle.xrf_log_law.specs.Laws.{DataSetsAreSound, FileIsTheBook, ItemsAreAgreed, ItemsSeeTheBook, KeyNumbersAreSmall, ConditionsAreMet, UnitsAreTheItems}
 use Rattle.xrf_log_law.specs.State.{State, booked, view}
-use Rattle.xrf_log_law.specs.Undone.{undo_at}
-use Rattle.xrf_log_law.proofs.Always.{all-ended, always, each-entry, each-part}
-use Rattle.xrf_log_law.proofs.Counted.{log-count}
-use Rattle.xrf_log_law.proofs.Ending.{EndedBy, answer-means}
-use Rattle.xrf_log_law.proofs.Ledgers.{open-rows}
-use Rattle.xrf_log_law.proofs.PromiseRuns.{Facts, facts, ledgers-are}
-use Rattle.xrf_log_law.proofs.Runs.{kept-kinds}
-use Rattle.xrf_log_law.proofs.Steady.{no-rows}
-use Rattle.xrf_log_law.proofs.Steps.{Kept, book-at}
-use Rattle.xrf_log_law.proofs.WorldRuns.{MayGo, go-kinds}
+use Rattle.xrf_log_law.specs.BeforeImages.{undo_at}
+use Rattle.xrf_log_law.proofs.InvariantLaw.{all-ended, always, each-entry, each-part}
+use Rattle.xrf_log_law.proofs.Counts.{log-count}
+use Rattle.xrf_log_law.proofs.EndsLaw.{EndedBy, answer-means}
+use Rattle.xrf_log_law.proofs.LedgerLaws.{open-rows}
+use Rattle.xrf_log_law.proofs.PromiseEntries.{Facts, facts, ledgers-are}
+use Rattle.xrf_log_law.proofs.InvariantEntries.{kept-kinds}
+use Rattle.xrf_log_law.proofs.LedgerSteps.{no-rows}
+use Rattle.xrf_log_law.proofs.InvariantActs.{Kept, book-at}
+use Rattle.xrf_log_law.proofs.ConditionEntries.{EntryConditions, go-kinds}
 -- at each RESTARTED the file is the book
 restarts : (s : Scen) (t : List Entry) (e : Entry) → Invariant s t → Step s t e → RestartsAtBook s t e
 restarts s t e k step = (by_kind s t e (λ e. Kept s t e) step (kept-kinds s t k)).book
@@ -75,20 +75,20 @@ data-sets-stand s t scen is few =
     }
 
 -- what the steps of a world ask
-goes : (s : Scen) (t : List Entry) (e : Entry) → Invariant s t → Step s t e → MayGo s t e
-goes s t e k step = by_kind s t e (λ e. MayGo s t e) step (go-kinds s t k)
+goes : (s : Scen) (t : List Entry) (e : Entry) → Invariant s t → Step s t e → EntryConditions s t e
+goes s t e k step = by_kind s t e (λ e. EntryConditions s t e) step (go-kinds s t k)
 
-pub steps-may-go : StepsMayGo
-steps-may-go s t scen is few =
-    let all = each-entry s (MayGo s) (goes s) t (in_ranges s scen) is few in
+pub conditions-are-met : ConditionsAreMet
+conditions-are-met s t scen is few =
+    let all = each-entry s (EntryConditions s) (goes s) t (in_ranges s scen) is few in
     record {
-      written = each-part (MayGo s) _ t (λ t e goes. goes.written) all;
-      slots = each-part (MayGo s) _ t (λ t e goes. goes.slots) all;
+      written = each-part (EntryConditions s) _ t (λ t e goes. goes.written) all;
+      slots = each-part (EntryConditions s) _ t (λ t e goes. goes.slots) all;
       scans = (always s t (in_ranges s scen) is few).scans;
     }
 
-pub keys-are-few : KeysAreFew
-keys-are-few s t scen is few = (always s t (in_ranges s scen) is few).keys
+pub key-numbers-are-small : KeyNumbersAreSmall
+key-numbers-are-small s t scen is few = (always s t (in_ranges s scen) is few).keys
 
 -- the trace answers as the jobs do
 pub items-agree : ItemsAreAgreed

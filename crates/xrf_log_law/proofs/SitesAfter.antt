@@ -19,22 +19,22 @@ use Rattle.xrf_trace.specs.declared.entry.Act.TheVariants as act
 use Rattle.xrf_trace.specs.declared.entry.Land.TheVariants as land
 
 -- a fact of a job that is not gone after its act
-abbrev pub Goes : Act → Type 0 → Type 0
-Goes (act.Ended reason) fact = Unit {0}
-Goes _ fact = fact
+abbrev pub UnlessGone : Act → Type 0 → Type 0
+UnlessGone (act.Ended reason) fact = Unit {0}
+UnlessGone _ fact = fact
 
 -- a fact of the job of a site after an act there
 abbrev pub OwnAfter : Scen → List Entry → Site → Act → Land → Option (List Event) → (List Event → Type 0) → Type 0
 OwnAfter s t x a l job fact = IfSome (after_own s t x (now t) a l job) fact
 
 -- a fact of an act is one of a job that is not gone
-pub goes-of : (a : Act) (fact : Type 0) → fact → Goes a fact
-goes-of (act.Ended reason) fact holds = tt
-goes-of _ fact holds = holds
+pub unless-gone : (a : Act) (fact : Type 0) → fact → UnlessGone a fact
+unless-gone (act.Ended reason) fact holds = tt
+unless-gone _ fact holds = holds
 
 -- a job that made an act has it in its history, or is gone
 pub full-after : (s : Scen) (t : List Entry) (x : Site) (h : List Event) (a : Act) (fact : List Event → Type 0) → is_act a ≡ true
-    → Goes a (fact (handed s t x (now t) h a ∷ h)) → IfSome (after_act s t x (now t) a (Some h)) fact
+    → UnlessGone a (fact (handed s t x (now t) h a ∷ h)) → IfSome (after_act s t x (now t) a (Some h)) fact
 full-after s t x h act.StartActive fact own goes = absurd (cc)
 full-after s t x h act.StartStandby fact own goes = absurd (cc)
 full-after s t x h (act.Ended reason) fact own goes = tt
@@ -49,7 +49,7 @@ fail-after s t x h a cut fact is may fails = subst (λ (w : Want). fact (ActFail
 -- the job of an act: it has made the act, or knows that it failed, or is gone
 pub own-after : (s : Scen) (t : List Entry) (x : Site) (h : List Event) (a : Act) (l : Land) (fact : List Event → Type 0)
     → act_of s t x h (next (settings s x) h) ≡ Some a → MayLand l a
-    → Goes a (fact (handed s t x (now t) h a ∷ h)) → fact (ActFailed (next (settings s x) h) (now t) ∷ h)
+    → UnlessGone a (fact (handed s t x (now t) h a ∷ h)) → fact (ActFailed (next (settings s x) h) (now t) ∷ h)
     → OwnAfter s t x a l (Some h) fact
 own-after s t x h a land.Full fact is may goes fails = full-after s t x h a fact (is-own s t x h (next (settings s x) h) a is) goes
 own-after s t x h a land.Lost fact is may goes fails = full-after s t x h a fact (is-own s t x h (next (settings s x) h) a is) goes

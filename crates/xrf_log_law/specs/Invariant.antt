@@ -6,8 +6,8 @@ use Rattle.xrf_trace.proofs.ScenarioLaws.{IsInRanges}
 use Rattle.xrf_owner_law.specs.Known.{IsKnown, WritesAreKnown}
 use Rattle.xrf_log_law.specs.Jobs.{Stands}
 use Rattle.xrf_log_law.specs.Ranges.{InRanges}
-use Rattle.xrf_log_law.specs.Serving.{ServeAll}
-use Rattle.xrf_log_law.specs.Worlds.{AllScan, KeysFew}
+use Rattle.xrf_log_law.specs.Serving.{SitesServe}
+use Rattle.xrf_log_law.specs.Conditions.{ScansFit, KeysAreSmall}
 
 pub record Invariant (s : Scen) (t : List Entry) : Type 0 where
   pub scen : IsInRanges s
@@ -15,7 +15,7 @@ pub record Invariant (s : Scen) (t : List Entry) : Type 0 where
   pub known : IsKnown s t
   pub writes : WritesAreKnown s t
   pub stands : Stands s t
-  pub serves : ServeAll s t
+  pub serves : SitesServe s t
   pub ranges : InRanges s t
-  pub scans : AllScan s t
-  pub keys : KeysFew t
+  pub scans : ScansFit s t
+  pub keys : KeysAreSmall t

@@ -16,10 +16,10 @@ use Rattle.xrf_trace.specs.Jobs.{hist}
 use Rattle.xrf_trace.specs.declared.entry.Act.{Act}
 use Rattle.xrf_trace.specs.declared.entry.Land.{Land}
 use Rattle.xrf_trace.specs.Landing.{landed}
-use Rattle.xrf_log_law.specs.Duty.{InsideDue, IsUnread, Restarts, known}
+use Rattle.xrf_log_law.specs.Due.{InsideDue, IsUnread, Restarts, restart_view}
 use Rattle.xrf_log_law.specs.State.{View, State, key_number, view}
-use Rattle.xrf_log_law.specs.Work.{Working}
-use Rattle.xrf_log_law.specs.Due.{is_sound}
+use Rattle.xrf_log_law.specs.AtWork.{Working}
+use Rattle.xrf_log_law.specs.Soundness.{is_sound}
 use Rattle.xrf_history.specs.declared.want.Want.TheVariants as want
 use Rattle.xrf_trace.specs.declared.entry.Act.TheVariants as act
 
@@ -49,14 +49,14 @@ abbrev pub JobStands : (size : ℕ) → (ℕ → Option (List ℕ)) → View →
 JobStands size first v p h =
     (has_read_block h ≡ true → is_owner h ≡ true)
     × (has_read_block h ≡ false → IsUnread size p h)
-    × (is_active h ≡ true → is_sound h ≡ true → has_read_block h ≡ true → is_restarted h ≡ false → Restarts size first v (known p h))
+    × (is_active h ≡ true → is_sound h ≡ true → has_read_block h ≡ true → is_restarted h ≡ false → Restarts size first v (restart_view p h))
     × (is_active h ≡ true → InsideDue size first v p h)
     × (is_active h ≡ false → IfSome (inside p h) Idle)
     × (is_active h ≡ true → is_sound h ≡ true → is_restarted h ≡ true → Working size first v p h)
 
 -- what is said of a job at a site, by what is read of the trace
-abbrev pub JobAfter : Scen → List Entry → Site → View → List Event → Type 0
-JobAfter s t x v h = JobStands s.settings.log (first_value s) v (settings s x) h
+abbrev pub SiteStands : Scen → List Entry → Site → View → List Event → Type 0
+SiteStands s t x v h = JobStands s.settings.log (first_value s) v (settings s x) h
 
 pub record Stands (s : Scen) (t : List Entry) : Type 0 where
   pub state : State s.settings.log (first_value s) (view s t)

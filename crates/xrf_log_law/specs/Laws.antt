@@ -10,10 +10,10 @@ use Rattle.xrf_setup.specs.declared.ranges.TheConstants.{CHOICES_MOST}
 use Rattle.xrf_trace.specs.FileIsBook.{FileIsBook, IsBookAt}
 use Rattle.xrf_trace.specs.ItemsSeeBook.{ItemsSeeBook}
 use Rattle.xrf_trace.specs.UnitsAreItems.{UnitsAreItems}
-use Rattle.xrf_log_law.specs.Views.{HoldsLast}
+use Rattle.xrf_log_law.specs.LogSlots.{HoldsLast}
 use Rattle.xrf_log_law.specs.State.{KeysStand, key_number}
-use Rattle.xrf_log_law.specs.Promises.{ItemsAgree}
-use Rattle.xrf_log_law.specs.Worlds.{KeysFew, WorldMayGo}
+use Rattle.xrf_log_law.specs.Agreement.{ItemsAgree}
+use Rattle.xrf_log_law.specs.Conditions.{KeysAreSmall, WorldConditions}
 use Rattle.xrf_gated.specs.Slots.{is_open}
 
 -- what holds of each run of a scenario in its ranges
@@ -47,11 +47,11 @@ abbrev pub DataSetsAreSound : Type 0
 DataSetsAreSound = OfRuns DataSetsStand
 
 -- what the steps of a world ask
-abbrev pub StepsMayGo : Type 0
-StepsMayGo = OfRuns WorldMayGo
+abbrev pub ConditionsAreMet : Type 0
+ConditionsAreMet = OfRuns WorldConditions
 
-abbrev pub KeysAreFew : Type 0
-KeysAreFew = OfRuns (λ s t. KeysFew t)
+abbrev pub KeyNumbersAreSmall : Type 0
+KeyNumbersAreSmall = OfRuns (λ s t. KeysAreSmall t)
 
 -- the trace's answers and ledgers are those of the jobs
 abbrev pub ItemsAreAgreed : Type 0

@@ -21,9 +21,9 @@ use Rattle.xrf_trace.specs.Words.{items_taken, is_item}
 use Rattle.xrf_trace.specs.declared.entry.Act.{Act}
 use Rattle.xrf_trace.specs.declared.entry.Land.{Land}
 use Rattle.xrf_trace.specs.Jobs.{hist}
-use Rattle.xrf_log_law.specs.Work.{IsOpenUnit}
+use Rattle.xrf_log_law.specs.AtWork.{IsOpenUnit}
 use Rattle.xrf_log_law.specs.Jobs.{Idle}
-use Rattle.xrf_log_law.specs.Due.{is_sound}
+use Rattle.xrf_log_law.specs.Soundness.{is_sound}
 use Rattle.xrf_base.specs.declared.items.Item.TheVariants as items
 use Rattle.xrf_file.specs.declared.answers.Plan.TheVariants as plans
 use Rattle.xrf_history.specs.declared.want.Want.TheVariants as want
@@ -89,5 +89,5 @@ Serves p h v =
     × (is_active h ≡ true → is_sound h ≡ true → is_restarted h ≡ true → ServesWork p h v)
     × (is_sound h ≡ false → IfSome (inside p h) Idle)
 
-abbrev pub ServeAll : Scen → List Entry → Type 0
-ServeAll s t = (x : Site) → IfSome (hist s t x) (λ h. Serves (settings s x) h (site_view s t x))
+abbrev pub SitesServe : Scen → List Entry → Type 0
+SitesServe s t = (x : Site) → IfSome (hist s t x) (λ h. Serves (settings s x) h (site_view s t x))

@@ -17,8 +17,8 @@ use Rattle.xrf_trace.specs.Devices.{image, key_slot, log_slot, image_after, key_
 use Rattle.xrf_trace.specs.Log.{log, start, log_after, log_start_after, committed}
 use Rattle.xrf_trace.specs.Book.{puts, puts_after, value_after}
 use Rattle.xrf_trace.specs.Scenario.{Scen}
-use Rattle.xrf_log_law.specs.Views.{LogView, nth_old, LogStands}
-use Rattle.xrf_log_law.specs.Undone.{value_by, IsUndone, has_put, other_has_put}
+use Rattle.xrf_log_law.specs.LogSlots.{LogView, nth_old, LogStands}
+use Rattle.xrf_log_law.specs.BeforeImages.{value_by, IsUndone, has_put, other_has_put}
 use Rattle.xrf_trace.specs.declared.entry.Act.TheVariants as act
 
 -- the number of the last keypoint that was opened, and 0 where there is none

@@ -7,7 +7,7 @@ returns c = record {
   units = law.units-are-items;
   items = law.items-see-book;
   stands = law.data-sets-stand;
-  steps = law.steps-may-go;
-  keys = law.keys-are-few;
+  steps = law.conditions-are-met;
+  keys = law.key-numbers-are-small;
   agree = law.items-agree;
 }

@@ -1,0 +1,61 @@
+-- What the steps of a world ask of the log, the keypoints and the file.
+use Rattle.std.specs.Prelude.{IsTrue, List, is_some, ◌≡◌, ◌<◌, ◌%◌, Option, ℕ, length, true, ◌+◌, ◌≤◌, IfSome}
+use Rattle.xrf_base.specs.Values.{SlotIs}
+use Rattle.xrf_base.specs.declared.site.Site.{Site}
+use Rattle.xrf_gated.specs.declared.gated.TheConstants.{OPEN}
+use Rattle.xrf_logrec.specs.Keypoints.{key_reading}
+use Rattle.xrf_logrec.specs.LogRecords.{log_reading}
+use Rattle.xrf_logrec.specs.declared.keypoints.Keypoint.{Keypoint}
+use Rattle.xrf_log.specs.Scan.{Scanned, keypoint_at}
+use Rattle.xrf_log.specs.Flight.{flight}
+use Rattle.xrf_history.specs.Events.{Event}
+use Rattle.xrf_history.specs.Restarting.{scan}
+use Rattle.xrf_trace.specs.declared.entry.Act.{Act}
+use Rattle.xrf_trace.specs.declared.entry.Entry.{Entry}
+use Rattle.xrf_trace.specs.Scenario.{Scen, settings}
+use Rattle.xrf_trace.specs.Devices.{key_slot, log_slot, image}
+use Rattle.xrf_trace.specs.Each.{Each}
+use Rattle.xrf_trace.specs.Jobs.{hist}
+use Rattle.xrf_trace.specs.declared.entry.Act.TheVariants as act
+
+-- what is written over: CLOSE an open slot, BODY a closed one, OPEN a whole body
+abbrev pub MayBeWritten : Scen → List Entry → Act → Type 0
+MayBeWritten s t (act.LogClose p) = (log_slot s t (p % s.settings.log)).gate ≡ OPEN
+MayBeWritten s t (act.LogBody p rec) = (log_slot s t (p % s.settings.log)).gate ≡ OPEN → ⊥
+MayBeWritten s t (act.LogOpen p rec) = IsTrue (is_some (log_reading (log_slot s t (p % s.settings.log)).body))
+MayBeWritten s t (act.KpClose k) = (k < 2) × ((key_slot t k).gate ≡ OPEN)
+MayBeWritten s t (act.KpBody k keypoint) = (k < 2) × ((key_slot t k).gate ≡ OPEN → ⊥)
+MayBeWritten s t (act.KpOpen k keypoint) = (k < 2) × IsTrue (is_some (key_reading (key_slot t k).body))
+MayBeWritten s t _ = Unit {0}
+
+-- every slot of the file that is read is a slot
+abbrev pub IsSlot : List ℕ → Type 0
+IsSlot bytes = (held : Option (List ℕ)) × SlotIs bytes held
+
+abbrev pub ReadsSlot : Scen → List Entry → Act → Type 0
+ReadsSlot s t (act.FileRead k) = IsSlot (image s t k)
+ReadsSlot s t _ = Unit {0}
+
+-- the records that are scanned, and with the last block their flight too, have room in the log
+pub record ScanFits (size : ℕ) (found : Scanned) : Type 0 where
+  pub records : length found.records ≤ size
+  pub flight : found.ended ≡ true → length found.records + length (flight found.records) ≤ size
+
+-- of the job of a site, and of each
+abbrev pub JobScanFits : Scen → Site → List Event → Type 0
+JobScanFits s x h = ScanFits s.settings.log (scan (settings s x) h)
+
+abbrev pub ScansFit : Scen → List Entry → Type 0
+ScansFit s t = (x : Site) → IfSome (hist s t x) (JobScanFits s x)
+
+pub record WorldConditions (s : Scen) (t : List Entry) : Type 0 where
+  pub written : Each (λ t e. MayBeWritten s t e.act) t
+  pub slots : Each (λ t e. ReadsSlot s t e.act) t
+  pub scans : ScansFit s t
+
+-- the keypoints that stand in open slots are few
+abbrev pub IsSmall : ℕ → Keypoint → Type 0
+IsSmall n keypoint = (keypoint.number ≤ n) × (keypoint.start ≤ n)
+
+abbrev pub KeysAreSmall : List Entry → Type 0
+KeysAreSmall t = (i : ℕ) → IfSome (keypoint_at (key_slot t i)) (IsSmall (length t))

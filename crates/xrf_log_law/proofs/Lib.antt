@@ -48,5 +48,5 @@ mod ShutUnits
 mod ClosedUnitsLaw
 mod EndsLaw
 mod InvariantLaw
-mod LogLaw
+pub mod LogLaw
 mod SameRecords

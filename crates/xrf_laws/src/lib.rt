@@ -1,0 +1,7 @@
+//! The headline over definitions: every run of a scenario is safe and keeps the promises. It has no code; its proof is
+//! the clause of an empty function, from the laws of the owner, of the log and of the messages.
+#![tactic(auto)]
+
+mod laws;
+
+pub use laws::runs_are_safe;

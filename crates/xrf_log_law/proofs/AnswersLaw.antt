@@ -252,13 +252,6 @@ means-done s t x h _ b = tt
 abbrev pub Same : Scen → List Entry → Site → List Event → Act → Type 0
 Same s t x h a = answer_by s t x a ≡ item_answer (settings s x) (handed s t x (now t) h a ∷ h)
 
-get-same : (plan : Plan) (slot : List ℕ) → answer_of_read plan slot ≡ answer_of_read plan slot
-get-same (plans.Get k) slot = refl
-get-same (plans.Put u k value place) slot = refl
-get-same (plans.Commit u place) slot = refl
-get-same (plans.Roll u place) slot = refl
-get-same (plans.Answer a) slot = refl
-
 given-some : (given : Option Item) (l : Ledger) (plan : Plan) (k : ℕ) → Serving given l plan → IsRead plan k → (item : Item) × (given ≡ Some item)
 given-some given l (plans.Put u n value place) k serving same = (_, serving.1)
 given-some given l (plans.Get n) k serving same = (_, serving.1)
@@ -291,6 +284,6 @@ answers-same s t x h (want.LogRead n) b = by (has_read_block h)
 answers-same s t x h (want.FileRead k) b =
     let at = at-work s t x h (want.FileRead k) b refl b.due.0 in
     let given = given-some (given_last h) (ledger (settings s x) h) (plan_of_job (settings s x) h) k at.serves.2 (subst (OfPlan (plan_of_job (settings s x) h)) b.is (next-of (settings s x) h)) in
-    ap (λ (plan : Plan). answer_of_read plan (image s t k)) (item-at s t x h given.0 b.serves given.1).1 ∙ get-same (plan_of_job (settings s x) h) (image s t k)
+    ap (λ (plan : Plan). answer_of_read plan (image s t k)) (item-at s t x h given.0 b.serves given.1).1
 answers-same s t x h (want.LogOpen place rec) b = ap (λ (o : Option (List Event)). answer_of_end (is_working o) rec) b.job ∙ end-same (is_restarted h) rec
 answers-same s t x h _ b = refl

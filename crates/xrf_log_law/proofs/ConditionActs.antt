@@ -1,6 +1,18 @@
 -- What the steps of a world ask of the log, the keypoints and the file, at each act.
+use Rattle.xrf_log.specs.Flight.{puts as puts_of_log, has_ended, flight}
+use Rattle.std.proofs.Math.Nat.{div-add-mod, mod-lt}
+use Rattle.xrf_log.specs.Scan.{block_of_record, Scanned, after_block, after_anchors, anchor_of}
+use Rattle.xrf_log.specs.declared.taken.Row.{Row}
+use Rattle.xrf_logrec.specs.declared.records.LogRec.{LogRec}
+use Rattle.xrf_logrec.specs.declared.records.LogRec.TheVariants.{Backout, Commit, Put}
+use Rattle.xrf_log_law.specs.Ranges.{AreOfFile}
+use Rattle.xrf_log_law.specs.Serving.{IsWrite, IsRead, Serving, given_last, OfPlan}
+use Rattle.xrf_log_law.specs.BeforeImages.{covers}
+use Rattle.xrf_log_law.specs.Conditions.{IsWithin, MayBeWritten, IsSlot, ReadsSlot, ScanFits}
+use Rattle.xrf_log_law.proofs.OwnRanges.{PlanRrn, rrn-of}
+use Rattle.xrf_log_law.proofs.Tests.{eq-of-true, or-cases, eq-of-false}
+use Rattle.std.specs.Prelude.{map, filter, ◌/◌, ◌≤◌, ◌==◌, if◌then◌else◌, not, IsTrue}
 use Rattle.std.proofs.Common.{true, ◌≡◌, false, Option, Some, ap, is_some, arith, ℕ, ◌<◌, ◌%◌, IfSome, List, sym, ◌∙◌, refl, subst, length, ◌*◌, Bool, [], ◌∷◌, None, ◌+◌}
-use Rattle.std.specs.Prelude.{IsTrue}
 use Rattle.std.proofs.lemmas.Grind.{common_steps}
 use Rattle.std.specs.List.{flat_map, range_with_len}
 use Rattle.xrf_base.specs.declared.site.Site.{Site}
@@ -9,8 +21,6 @@ use Rattle.xrf_gated.specs.declared.gated.TheConstants.{OPEN}
 use Rattle.xrf_gated.specs.declared.gated.Slot.{Slot}
 use Rattle.xrf_gated.specs.Slots.{is_open, bytes_of}
 use Rattle.xrf_logrec.specs.declared.keypoints.Keypoint.{Keypoint}
-use Rattle.xrf_log.specs.Scan.{Scanned, after_block, after_anchors, anchor_of}
-use Rattle.xrf_log.specs.Flight.{flight}
 use Rattle.xrf_file.specs.declared.answers.Plan.{Plan}
 use Rattle.xrf_history.specs.Events.{Event}
 use Rattle.xrf_history.specs.declared.want.Want.{Want}
@@ -25,9 +35,7 @@ use Rattle.xrf_trace.specs.Jobs.{block_event, handed, item_event}
 use Rattle.xrf_trace.specs.declared.entry.Act.{Act}
 use Rattle.xrf_trace.specs.Words.{now, items_taken}
 use Rattle.xrf_log_law.proofs.JobActs.{of-item, no-records}
-use Rattle.xrf_log_law.specs.Conditions.{MayBeWritten, IsSlot, ReadsSlot, ScanFits}
 use Rattle.xrf_log_law.proofs.ReadsLaw.{AtWork, reads-value, at-work}
-use Rattle.xrf_log_law.specs.Serving.{IsRead, Serving, given_last, OfPlan}
 use Rattle.xrf_log_law.proofs.ValueRanges.{book-value}
 use Rattle.xrf_log_law.proofs.DueOfItems.{named-open}
 use Rattle.xrf_log_law.proofs.ServingActs.{sound-for}
@@ -45,7 +53,6 @@ use Rattle.xrf_log_law.proofs.NewestParts.{scanned-all}
 use Rattle.xrf_log_law.proofs.KeyWrites.{anchor}
 use Rattle.xrf_log_law.proofs.BeforeActs.{Before, log-some}
 use Rattle.xrf_base.specs.Ranges.{AreLimits}
-use Rattle.xrf_log_law.proofs.Tests.{eq-of-false, eq-of-true}
 use Rattle.xrf_file.specs.declared.answers.Plan.TheVariants as plans
 use Rattle.xrf_history.specs.declared.want.Want.TheVariants as want
 
@@ -111,12 +118,22 @@ reads-slot s t x h (want.FileRead k) b =
 reads-slot s t x h _ b = tt
 
 -- the scan
+block-within : (size n : ℕ) → 0 < size → size % 64 ≡ 0 → 64 * (n % size / 64) + 64 ≤ size
+block-within size n some even =
+    let less : n % size < size = mod-lt n some in
+    let whole : 64 * (size / 64) ≡ size = omega (arith, div-add-mod size 64, even) in
+    let place : 64 * (n % size / 64) ≤ n % size = omega (arith, div-add-mod (n % size) 64) in
+    let below : n % size / 64 < size / 64 = omega (arith, less, whole, place) in
+    omega (arith, below, whole)
+
 scan-fits : (size : ℕ) (first : ℕ → Option (List ℕ)) (v : View) (found : Scanned) (block : List ℕ) → 0 < size → size % 64 ≡ 0 → State size first v → found.slots ≡ size → found.anchor.start ≡ v.start → IsPart v.log v.start found.records
     → block ≡ flat_map (λ i. bytes_of (v.slot i)) (range_with_len (64 * found.block) 64) → ScanFits size (after_block found block)
 scan-fits size first v found block some even state is_size anchored part are =
     let after : IsScan size v.log v.start (after_block found block) = after_block-scan size (log_part v) found block some even state.whole state.log (omega (arith, state.room)) is_size anchored part are in
     record {
       records = omega (arith, after.part.within, state.room);
+      block = subst (λ (m : ℕ). 64 * block_of_record m (found.anchor.start + length (after_block found block).records) + 64 ≤ size) (sym is_size)
+          (block-within size (found.anchor.start + length (after_block found block).records) some even);
       flight = λ e.
           (let all = scanned-all v.log v.start (after_block found block).records state.ordered state.over after.part (after.done e) in
           let count : length (flight (after_block found block).records) ≡ length (flight v.log) = ap length all.in_flight in
@@ -153,3 +170,45 @@ fits-after s t x h (want.LogRead n) b fits = by (has_read_block h) refl
     by : (has : Bool) → has_read_block h ≡ has → ScanFits s.settings.log (scan (settings s x) (block_event s t n has ∷ h))
     by has is = block-fits s t x h n has b.scen.limits b.state is b.stands.1 (λ e. b.stands.2 (b.acts refl) (sound-for h (want.LogRead n) b.idle refl) e b.due.0) b.due.1 b.due.2
 fits-after s t x h _ b fits = fits
+
+-- what a PUT and a GET read and write are records of the file
+read-within : (file k : ℕ) (plan : Plan) → PlanRrn file plan → IsRead plan k → (1 ≤ k) × (k ≤ file)
+read-within file k (plans.Put unit rrn value place) is same = subst (λ (r : ℕ). (1 ≤ r) × (r ≤ file)) same is
+read-within file k (plans.Get rrn) is same = subst (λ (r : ℕ). (1 ≤ r) × (r ≤ file)) same is
+read-within file k (plans.Commit unit place) is same = absurd same
+read-within file k (plans.Roll unit place) is same = absurd same
+read-within file k (plans.Answer a) is same = absurd same
+
+write-within : (file k : ℕ) (unit : UnitId) (value : List ℕ) (plan : Plan) → PlanRrn file plan → IsWrite plan unit k value → (1 ≤ k) × (k ≤ file)
+write-within file k unit value (plans.Put u rrn v place) is same = subst (λ (r : ℕ). (1 ≤ r) × (r ≤ file)) same.1 is
+write-within file k unit value (plans.Get rrn) is same = absurd same
+write-within file k unit value (plans.Commit u place) is same = absurd same
+write-within file k unit value (plans.Roll u place) is same = absurd same
+write-within file k unit value (plans.Answer a) is same = absurd same
+
+-- what is undone are records of the Puts of the log
+undo-within : (file r : ℕ) (q : Row → Bool) (log : List LogRec) → AreOfFile file log → covers r (map (λ row. row.undo) (filter q (puts_of_log log))) ≡ true → (1 ≤ r) × (r ≤ file)
+undo-within file r q [] are covered = absurd (cc)
+undo-within file r q (Put u k before ∷ log) are covered = by (q (record { unit = u; undo = record { rrn = k; before = before } })) (undo-within file r q log are.0) covered
+  where
+    by : (b : Bool) → (covers r (map (λ row. row.undo) (filter q (puts_of_log log))) ≡ true → (1 ≤ r) × (r ≤ file))
+        → covers r (map (λ row. row.undo) (if b then record { unit = u; undo = record { rrn = k; before = before } } ∷ filter q (puts_of_log log) else filter q (puts_of_log log))) ≡ true
+        → (1 ≤ r) × (r ≤ file)
+    by true rest covered =
+        or-cases (k == r) (covers r (map (λ row. row.undo) (filter q (puts_of_log log)))) covered (λ e. subst (λ (n : ℕ). (1 ≤ n) × (n ≤ file)) (eq-of-true k r e) are.1) rest
+    by false rest covered = rest covered
+undo-within file r q (Commit u ∷ log) are covered = undo-within file r q log are.0 covered
+undo-within file r q (Backout u ∷ log) are covered = undo-within file r q log are.0 covered
+
+-- each act is within its data set
+pub is-within : (s : Scen) (t : List Entry) (x : Site) (h : List Event) (w : Want) → Before s t x h w → ScanFits s.settings.log (scan (settings s x) h) → IfSome (act_of s t x h w) (IsWithin s)
+is-within s t x h want.Nothing b fits = tt
+is-within s t x h (want.Exit told) b fits = tt
+is-within s t x h want.Item b fits = of-item s t x (IsWithin s) tt
+is-within s t x h (want.LogRead n) b fits = subst (λ (k : ℕ). 64 * k + 64 ≤ s.settings.log) (sym b.due.2) fits.block
+is-within s t x h (want.FileRead k) b fits =
+    read-within s.settings.file k (plan_of_job (settings s x) h) (rrn-of (settings s x) h) (subst (OfPlan (plan_of_job (settings s x) h)) b.is (next-of (settings s x) h))
+is-within s t x h (want.FileWrite unit k value) b fits =
+    write-within s.settings.file k unit value (plan_of_job (settings s x) h) (rrn-of (settings s x) h) (subst (OfPlan (plan_of_job (settings s x) h)) b.is (next-of (settings s x) h))
+is-within s t x h (want.Undo k before) b fits = undo-within s.settings.file k (λ row. not (has_ended row.unit (log t))) (log t) b.ranges.file b.due.0
+is-within s t x h _ b fits = tt

@@ -10,12 +10,13 @@ use Rattle.xrf_trace.specs.Words.{now}
 use Rattle.xrf_trace.specs.declared.entry.Act.{Act}
 use Rattle.xrf_trace.proofs.ByKind.{is_quiet, Kinds}
 use Rattle.xrf_trace.specs.Entries.{entry, inc_at}
-use Rattle.xrf_log_law.specs.Conditions.{ScanFits, MayBeWritten, ReadsSlot, ScansFit, JobScanFits}
-use Rattle.xrf_log_law.proofs.ConditionActs.{Fits, fits-after, may-be-written, reads-slot}
+use Rattle.xrf_log_law.specs.Conditions.{ScanFits, MayBeWritten, ReadsSlot, ScansFit, JobScanFits, IsWithin}
+use Rattle.xrf_log_law.proofs.ConditionActs.{Fits, fits-after, may-be-written, reads-slot, is-within}
 use Rattle.xrf_log_law.proofs.InvariantActs.{before-next}
 use Rattle.xrf_log_law.proofs.SitesAfter.{tick-after, OwnAfter, own-after, unless-gone, sites-after, own-other, quiet-after, quiet-other}
 use Rattle.xrf_log_law.specs.Invariant.{Invariant}
 use Rattle.xrf_log_law.proofs.Tests.{false-true}
+use Rattle.xrf_log.specs.Scan.{cleared}
 use Rattle.xrf_base.specs.declared.site.Site.TheVariants as site
 use Rattle.xrf_setup.specs.declared.choice.Choice.TheVariants as choice
 use Rattle.xrf_trace.specs.declared.entry.Act.TheVariants as act
@@ -34,9 +35,10 @@ quiet-fits s t x _ (Some h) quiet fits = absurd (cc)
 
 -- an entry
 pub record EntryConditions (s : Scen) (t : List Entry) (e : Entry) : Type 0 where
+  pub within : IsWithin s e.act
   pub scans : ScansFit s (e ∷ t)
   pub written : MayBeWritten s t e.act
-  pub slots : ReadsSlot s t e.act
+  pub reads : ReadsSlot s t e.act
 
 quiet-written : (s : Scen) (t : List Entry) (a : Act) → is_quiet a ≡ true → MayBeWritten s t a
 quiet-written s t (act.LogClose p) e = false-true e
@@ -51,40 +53,55 @@ quiet-reads : (s : Scen) (t : List Entry) (a : Act) → is_quiet a ≡ true → 
 quiet-reads s t (act.FileRead k) quiet = absurd (cc)
 quiet-reads s t _ quiet = tt
 
-no-records : (s : Scen) (x : Site) → 0 ≤ s.settings.log
-no-records s x = omega arith
+quiet-within : (s : Scen) (a : Act) → is_quiet a ≡ true → IsWithin s a
+quiet-within s (act.LogRead b) quiet = absurd (cc)
+quiet-within s (act.FileRead k) quiet = absurd (cc)
+quiet-within s (act.FileWrite unit k value) quiet = absurd (cc)
+quiet-within s (act.Undo k before) quiet = absurd (cc)
+quiet-within s _ quiet = tt
+
+-- an empty scan fits
+empty-fits : (size : ℕ) → 64 ≤ size → ScanFits size (cleared size)
+empty-fits size least = record { records = omega arith; block = omega (arith, least); flight = λ e. false-true e }
+
+scan-least : (s : Scen) {t : List Entry} → Invariant s t → 64 ≤ s.settings.log
+scan-least s k = k.scen.limits.log_least
 
 pub go-kinds : (s : Scen) (t : List Entry) → Invariant s t → Kinds s t (λ e. EntryConditions s t e)
 go-kinds s t k = record {
-  tick = record { scans = tick k.scans; written = tt; slots = tt };
-  confirm = λ n. record { scans = confirm n k.scans; written = tt; slots = tt };
+  tick = record { within = tt; scans = tick k.scans; written = tt; reads = tt };
+  confirm = λ n. record { within = tt; scans = confirm n k.scans; written = tt; reads = tt };
   acts = λ x h a l job is fits may.
       (let b = before-next s t x h k job in
       let here : ScanFits s.settings.log (scan (settings s x) h) = subst (λ (o : Option (List Event)). IfSome o (JobScanFits s x)) job (k.scans x) in
       let after : Fits s t x h a = subst (λ (o : Option Act). IfSome o (Fits s t x h)) is (fits-after s t x h _ b here) in
       let own : OwnAfter s t x a l (Some h) (JobScanFits s x) = own-after s t x h a l (JobScanFits s x) is may (unless-gone a (Fits s t x h a) after) here in
       record {
+        within = subst (λ (o : Option Act). IfSome o (IsWithin s)) is (is-within s t x h _ b here);
         scans = sites-after s t x (inc_at a (Some h)) a l (JobScanFits s) (subst (λ (o : Option (List Event)). OwnAfter s t x a l o (JobScanFits s x)) (sym job) own)
             (own-other s t x h a (hist s t (other x)) is) (k.scans (other x));
         written = subst (λ (o : Option Act). IfSome o (MayBeWritten s t)) is (may-be-written s t x h _ b);
-        slots = subst (λ (o : Option Act). IfSome o (ReadsSlot s t)) is (reads-slot s t x h _ b);
+        reads = subst (λ (o : Option Act). IfSome o (ReadsSlot s t)) is (reads-slot s t x h _ b);
       });
   quiet = λ x i a quiet. record {
+    within = quiet-within s a quiet;
     scans = sites-after s t x i a land.Full (JobScanFits s) (quiet-after s t x a (hist s t x) (JobScanFits s x) quiet (quiet-fits s t x a (hist s t x) quiet (k.scans x)))
         (quiet-other a (hist s t (other x)) quiet) (k.scans (other x));
     written = quiet-written s t a quiet;
-    slots = quiet-reads s t a quiet;
+    reads = quiet-reads s t a quiet;
   };
-  stop = λ x i cut. record { scans = sites-after s t x i act.NoAct (land.Stop cut) (JobScanFits s) tt refl (k.scans (other x)); written = tt; slots = tt };
+  stop = λ x i cut. record { within = tt; scans = sites-after s t x i act.NoAct (land.Stop cut) (JobScanFits s) tt refl (k.scans (other x)); written = tt; reads = tt };
   active = λ x. record {
-    scans = sites-after s t x 0 act.StartActive land.Full (JobScanFits s) (record { records = no-records s x; flight = λ e. false-true e }) refl (k.scans (other x));
+    within = tt;
+    scans = sites-after s t x 0 act.StartActive land.Full (JobScanFits s) (empty-fits s.settings.log (scan-least s k)) refl (k.scans (other x));
     written = tt;
-    slots = tt;
+    reads = tt;
   };
   standby = λ x. record {
-    scans = sites-after s t x 0 act.StartStandby land.Full (JobScanFits s) (record { records = no-records s x; flight = λ e. false-true e }) refl (k.scans (other x));
+    within = tt;
+    scans = sites-after s t x 0 act.StartStandby land.Full (JobScanFits s) (empty-fits s.settings.log (scan-least s k)) refl (k.scans (other x));
     written = tt;
-    slots = tt;
+    reads = tt;
   };
 }
   where

@@ -6,15 +6,18 @@ use Rattle.xrf_file.specs.declared.rows.LoggedPut.{LoggedPut}
 use Rattle.xrf_trace.specs.declared.entry.Entry.{Entry}
 use Rattle.xrf_trace.specs.Devices.{image}
 use Rattle.xrf_trace.specs.Each.{AtSite}
-use Rattle.xrf_trace.specs.FileIsBook.{RestartsAtBook}
-use Rattle.xrf_trace.specs.UnitsAreItems.{AnswersMean}
+use Rattle.xrf_trace.specs.FileIsBook.{RestartsAtBook, FileIsBook}
+use Rattle.xrf_trace.specs.UnitsAreItems.{AnswersMean, UnitsAreItems}
 use Rattle.xrf_trace.specs.Log.{log}
 use Rattle.xrf_trace.specs.Scenario.{Scen, first_value}
 use Rattle.xrf_trace.proofs.ByKind.{by_kind}
 use Rattle.xrf_trace.proofs.Steps.{Step}
 use Rattle.xrf_trace.proofs.ScenarioLaws.{in_ranges}
 use Rattle.xrf_log_law.specs.Invariant.{Invariant}
-use Rattle.xrf_log_law.specs.Laws.{DataSetsAreSound, FileIsTheBook, ItemsAreAgreed, ItemsSeeTheBook, KeyNumbersAreSmall, ConditionsAreMet, UnitsAreTheItems}
+use Rattle.xrf_owner_law.specs.Laws.{OfRuns}
+use Rattle.xrf_log_law.specs.DataSets.{DataSetsStand}
+use Rattle.xrf_log_law.specs.Agreement.{LedgersAgree}
+use Rattle.xrf_trace.specs.Laws.{AnswersAlike, JobsAnswerAlike}
 use Rattle.xrf_log_law.specs.State.{State, booked, view}
 use Rattle.xrf_log_law.specs.BeforeImages.{undo_at}
 use Rattle.xrf_log_law.proofs.InvariantLaw.{all-ended, always, each-entry, each-part}
@@ -26,15 +29,17 @@ use Rattle.xrf_log_law.proofs.InvariantEntries.{kept-kinds}
 use Rattle.xrf_log_law.proofs.LedgerSteps.{no-rows}
 use Rattle.xrf_log_law.proofs.InvariantActs.{Kept, book-at}
 use Rattle.xrf_log_law.proofs.ConditionEntries.{EntryConditions, go-kinds}
+use Rattle.xrf_trace.specs.ItemsSeeBook.{ItemsSeeBook}
+use Rattle.xrf_log_law.specs.Conditions.{WorldConditions}
 -- at each RESTARTED the file is the book
 restarts : (s : Scen) (t : List Entry) (e : Entry) → Invariant s t → Step s t e → RestartsAtBook s t e
 restarts s t e k step = (by_kind s t e (λ e. Kept s t e) step (kept-kinds s t k)).book
 
-pub file-is-book : FileIsTheBook
+pub file-is-book : OfRuns FileIsBook
 file-is-book s t scen is few = each-entry s (RestartsAtBook s) (restarts s) t (in_ranges s scen) is few
 
 -- units are items
-pub units-are-items : UnitsAreTheItems
+pub units-are-items : OfRuns UnitsAreItems
 units-are-items s t scen is few =
     let all = each-entry s (Facts s) (facts s) t (in_ranges s scen) is few in
     record {
@@ -45,7 +50,7 @@ units-are-items s t scen is few =
     }
 
 -- items see the book
-pub items-see-book : ItemsSeeTheBook
+pub items-see-book : OfRuns ItemsSeeBook
 items-see-book s t scen is few =
     let all = each-entry s (Facts s) (facts s) t (in_ranges s scen) is few in
     record {
@@ -62,7 +67,7 @@ none-undone s t state none r =
     undone-by : open_puts (log t) ≡ [] → undo_at r (map (λ row. row.undo) (open_puts (log t))) (image s t r) ≡ image s t r
     undone-by rows = ap (λ (l : List Row). undo_at r (map (λ row. row.undo) l) (image s t r)) rows
 
-pub data-sets-stand : DataSetsAreSound
+pub data-sets-stand : OfRuns DataSetsStand
 data-sets-stand s t scen is few =
     let state = (always s t (in_ranges s scen) is few).stands.state in
     record {
@@ -78,23 +83,21 @@ data-sets-stand s t scen is few =
 goes : (s : Scen) (t : List Entry) (e : Entry) → Invariant s t → Step s t e → EntryConditions s t e
 goes s t e k step = by_kind s t e (λ e. EntryConditions s t e) step (go-kinds s t k)
 
-pub conditions-are-met : ConditionsAreMet
+pub conditions-are-met : OfRuns WorldConditions
 conditions-are-met s t scen is few =
     let all = each-entry s (EntryConditions s) (goes s) t (in_ranges s scen) is few in
     record {
+      within = each-part (EntryConditions s) _ t (λ t e goes. goes.within) all;
       written = each-part (EntryConditions s) _ t (λ t e goes. goes.written) all;
-      slots = each-part (EntryConditions s) _ t (λ t e goes. goes.slots) all;
+      reads = each-part (EntryConditions s) _ t (λ t e goes. goes.reads) all;
       scans = (always s t (in_ranges s scen) is few).scans;
+      keys = (always s t (in_ranges s scen) is few).keys;
     }
-
-pub key-numbers-are-small : KeyNumbersAreSmall
-key-numbers-are-small s t scen is few = (always s t (in_ranges s scen) is few).keys
 
 -- the trace answers as the jobs do
-pub items-agree : ItemsAreAgreed
-items-agree s t scen is few =
-    let holds = always s t (in_ranges s scen) is few in
-    record {
-      answers = each-part (Facts s) _ t (λ t e facts. facts.same) (each-entry s (Facts s) (facts s) t (in_ranges s scen) is few);
-      ledgers = λ x. ledgers-are s t x holds.stands holds.serves;
-    }
+pub jobs-answer-alike : JobsAnswerAlike
+jobs-answer-alike s t scen is few = each-part (Facts s) (AnswersAlike s) t (λ t e facts. facts.same) (each-entry s (Facts s) (facts s) t (in_ranges s scen) is few)
+
+-- and has their ledgers
+pub ledgers-agree : OfRuns LedgersAgree
+ledgers-agree s t scen is few = let k = always s t (in_ranges s scen) is few in λ x. ledgers-are s t x k.stands k.serves

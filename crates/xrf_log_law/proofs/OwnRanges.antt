@@ -118,9 +118,10 @@ begun-of p (ActFailed (want.KpOpen place keypoint) at ∷ h) = omega (arith, beg
 begun-of p (ActFailed _ at ∷ h) = omega (arith, begun-of p h)
 begun-of p (_ ∷ h) = omega (arith, begun-of p h)
 
--- a PUT that is planned is of a record of the file
+-- a PUT and a GET that are planned are of a record of the file
 abbrev pub PlanRrn : ℕ → Plan → Type 0
 PlanRrn file (plans.Put unit rrn value place) = (1 ≤ rrn) × (rrn ≤ file)
+PlanRrn file (plans.Get rrn) = (1 ≤ rrn) × (rrn ≤ file)
 PlanRrn file _ = Unit {0}
 
 good-rrn : (l : Ledger) (rrn file : ℕ) → l.records ≡ file → is_bad_rrn l rrn ≡ false → (1 ≤ rrn) × (rrn ≤ file)
@@ -147,7 +148,7 @@ rrn-planned l file (items.Get name rrn) is = by (unit_named name l.units)
   where
     by : (o : Option UnitId) → PlanRrn file (get_plan l o rrn)
     by None = tt
-    by (Some unit) = choose_if (PlanRrn file) (is_bad_rrn l rrn) _ _ (λ b. tt) (λ b. choose_if (PlanRrn file) (is_locked unit rrn l.puts) _ _ (λ c. tt) (λ c. tt))
+    by (Some unit) = choose_if (PlanRrn file) (is_bad_rrn l rrn) _ _ (λ b. tt) (λ b. choose_if (PlanRrn file) (is_locked unit rrn l.puts) _ _ (λ c. tt) (λ c. good-rrn l rrn file is b))
 rrn-planned l file (items.Commit name) is = by (unit_named name l.units)
   where
     by : (o : Option UnitId) → PlanRrn file (commit_plan l o)

@@ -24,7 +24,7 @@ use Rattle.xrf_trace.specs.Landing.{opens, lands, is_in_full}
 use Rattle.xrf_trace.specs.declared.entry.Act.{Act}
 use Rattle.xrf_trace.specs.Words.{items_taken, confirmed}
 use Rattle.xrf_trace.specs.Book.{puts, puts_after, value_after}
-use Rattle.xrf_log_law.specs.Ranges.{AreUnits, uses}
+use Rattle.xrf_log_law.specs.Ranges.{AreUnits, uses, AreOfFile}
 use Rattle.xrf_log_law.proofs.ServingActs.{sound-for}
 use Rattle.xrf_log_law.specs.State.{view, RecordDue}
 use Rattle.xrf_log_law.specs.Jobs.{is_idle, InRange}
@@ -50,7 +50,7 @@ writer-held s t x h w n there = n.held (owner-granted h (and-left (is_owner h) _
 -- the record that is written
 now-hand : (s : Scen) (t : List Entry) (x : Site) (h : List Event) (w : Want) (rec : LogRec) → Before s t x h w → is_idle w ≡ false
     → ((plan : Plan) → LastAt (first_value s) (view s t) plan w → RollLast (first_value s) (view s t) plan) → (NamedAt (ledger (settings s x) h).units (plan_of_job (settings s x) h) w → PlanNamed (ledger (settings s x) h).units (plan_of_job (settings s x) h))
-    → record_at_hand (settings s x) h ≡ Some rec → RecordDue s.settings.log (first_value s) (view s t) rec → HandRanged (number h) (log t) (is_restarted h) rec
+    → record_at_hand (settings s x) h ≡ Some rec → RecordDue s.settings.log (first_value s) (view s t) rec → HandRanged s.settings.file (number h) (log t) (is_restarted h) rec
 now-hand s t x h w rec n acts lasts names hand due =
     let there = n.acts acts in
     let sound = sound-for h w n.idle acts in
@@ -64,12 +64,12 @@ now-hand s t x h w rec n acts lasts names hand due =
     )))
     hand due
 
-body-hand : (s : Scen) (t : List Entry) (x : Site) (h : List Event) (place : ℕ) (rec : LogRec) → Before s t x h (want.LogBody place rec) → HandRanged (number h) (log t) (is_restarted h) rec
+body-hand : (s : Scen) (t : List Entry) (x : Site) (h : List Event) (place : ℕ) (rec : LogRec) → Before s t x h (want.LogBody place rec) → HandRanged s.settings.file (number h) (log t) (is_restarted h) rec
 body-hand s t x h place rec n =
     let due = n.due in
     now-hand s t x h (want.LogBody place rec) rec n refl (λ plan last. last) (λ named. named) due.3 due.1
 
-pub open-hand : (s : Scen) (t : List Entry) (x : Site) (h : List Event) (place : ℕ) (rec : LogRec) → Before s t x h (want.LogOpen place rec) → HandRanged (number h) (log t) (is_restarted h) rec
+pub open-hand : (s : Scen) (t : List Entry) (x : Site) (h : List Event) (place : ℕ) (rec : LogRec) → Before s t x h (want.LogOpen place rec) → HandRanged s.settings.file (number h) (log t) (is_restarted h) rec
 open-hand s t x h place rec n =
     let due = n.due in
     now-hand s t x h (want.LogOpen place rec) rec n refl (λ plan last. last) (λ named. named) due.3 due.1
@@ -97,6 +97,18 @@ units-after s t x h l want.Nothing n = tt
 units-after s t x h l (want.Exit told) n = tt
 units-after s t x h l want.Item n = of-item s t x (λ a. AreUnits (log_after a l (log t))) n.ranges.units
 units-after s t x h l _ n = n.ranges.units
+
+-- and of records of the file
+pub file-after : (s : Scen) (t : List Entry) (x : Site) (h : List Event) (l : Land) (w : Want) → Before s t x h w → IfSome (act_of s t x h w) (λ a. AreOfFile s.settings.file (log_after a l (log t)))
+file-after s t x h l (want.LogOpen place rec) n = by (opens l)
+  where
+    by : (b : Bool) → AreOfFile s.settings.file (if b then rec ∷ log t else log t)
+    by true = (n.ranges.file, (open-hand s t x h place rec n).file_of)
+    by false = n.ranges.file
+file-after s t x h l want.Nothing n = tt
+file-after s t x h l (want.Exit told) n = tt
+file-after s t x h l want.Item n = of-item s t x (λ a. AreOfFile s.settings.file (log_after a l (log t))) n.ranges.file
+file-after s t x h l _ n = n.ranges.file
 
 -- their incarnations are no greater than last
 of-below : (s : Scen) (t : List Entry) (n inc last : ℕ) → (uses inc (log t) ≡ true → inc ≤ last) → (restarted : Bool) → (unit : UnitId) → unit.inc ≡ inc → n ≤ last → IsOf n (log t) unit restarted → inc ≤ last

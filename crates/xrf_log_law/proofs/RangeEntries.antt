@@ -23,8 +23,8 @@ use Rattle.xrf_trace.specs.Acts.{act_of}
 use Rattle.xrf_trace.specs.Landing.{opens}
 use Rattle.xrf_trace.proofs.ByKind.{made, is_quiet, Kinds, MayLand}
 use Rattle.xrf_log_law.proofs.RecordRanges.{IsOf}
-use Rattle.xrf_log_law.specs.Ranges.{uses, IsFresh, InRanges, AreUnits}
-use Rattle.xrf_log_law.proofs.RangeActs.{open-hand, units-after, Below, below-after, Valued, values-after}
+use Rattle.xrf_log_law.specs.Ranges.{uses, IsFresh, InRanges, AreUnits, AreOfFile}
+use Rattle.xrf_log_law.proofs.RangeActs.{open-hand, units-after, Below, below-after, Valued, values-after, file-after}
 use Rattle.xrf_log_law.proofs.JobActs.{of-item}
 use Rattle.xrf_trace.specs.Each.{AtSite, OfJob}
 use Rattle.xrf_log_law.proofs.BeforeActs.{Before}
@@ -129,22 +129,22 @@ QuietRanges s t x i a = OwnAfter s t x a land.Full (hist s t x) (IsFresh (log t)
 
 quiet-ranges : (s : Scen) (t : List Entry) (x : Site) (i : ℕ) (a : Act) → is_quiet a ≡ true → QuietRanges s t x i a
 quiet-ranges s t x i act.Abend quiet own r =
-    record { units = r.units; below = r.below; values = r.values; fresh = sites-after s t x i act.Abend land.Full (λ y. IsFresh (log t)) own refl (r.fresh (other x)) }
+    record { units = r.units; file = r.file; below = r.below; values = r.values; fresh = sites-after s t x i act.Abend land.Full (λ y. IsFresh (log t)) own refl (r.fresh (other x)) }
 quiet-ranges s t x i (act.Reply go) quiet own r =
-    record { units = r.units; below = r.below; values = r.values; fresh = sites-after s t x i (act.Reply go) land.Full (λ y. IsFresh (log t)) own refl (r.fresh (other x)) }
+    record { units = r.units; file = r.file; below = r.below; values = r.values; fresh = sites-after s t x i (act.Reply go) land.Full (λ y. IsFresh (log t)) own refl (r.fresh (other x)) }
 quiet-ranges s t x i (act.Cebt command reply) quiet own r =
-    record { units = r.units; below = r.below; values = r.values; fresh = sites-after s t x i (act.Cebt command reply) land.Full (λ y. IsFresh (log t)) own refl (r.fresh (other x)) }
+    record { units = r.units; file = r.file; below = r.below; values = r.values; fresh = sites-after s t x i (act.Cebt command reply) land.Full (λ y. IsFresh (log t)) own refl (r.fresh (other x)) }
 quiet-ranges s t x i (act.Exit said) quiet own r =
-    record { units = r.units; below = r.below; values = r.values; fresh = sites-after s t x i (act.Exit said) land.Full (λ y. IsFresh (log t)) own refl (r.fresh (other x)) }
+    record { units = r.units; file = r.file; below = r.below; values = r.values; fresh = sites-after s t x i (act.Exit said) land.Full (λ y. IsFresh (log t)) own refl (r.fresh (other x)) }
 quiet-ranges s t x i act.NoAct quiet own r =
-    record { units = r.units; below = r.below; values = r.values; fresh = sites-after s t x i act.NoAct land.Full (λ y. IsFresh (log t)) own refl (r.fresh (other x)) }
+    record { units = r.units; file = r.file; below = r.below; values = r.values; fresh = sites-after s t x i act.NoAct land.Full (λ y. IsFresh (log t)) own refl (r.fresh (other x)) }
 quiet-ranges s t x i _ quiet own r = absurd (cc)
 
 -- each entry keeps the ranges
 pub range-kinds : (s : Scen) (t : List Entry) → Invariant s t → Kinds s t (λ e. InRanges s (e ∷ t))
 range-kinds s t k = record {
-  tick = record { units = k.ranges.units; below = k.ranges.below; values = k.ranges.values; fresh = tick k.ranges };
-  confirm = λ n. record { units = k.ranges.units; below = k.ranges.below; values = k.ranges.values; fresh = confirm n k.ranges };
+  tick = record { units = k.ranges.units; file = k.ranges.file; below = k.ranges.below; values = k.ranges.values; fresh = tick k.ranges };
+  confirm = λ n. record { units = k.ranges.units; file = k.ranges.file; below = k.ranges.below; values = k.ranges.values; fresh = confirm n k.ranges };
   acts = λ x h a l job is fits may.
       (let b = before-next s t x h k job in
       let fresh_now : IsFresh (log t) h = subst (λ (o : Option (List Event)). IfSome o (IsFresh (log t))) job (k.ranges.fresh x) in
@@ -152,6 +152,7 @@ range-kinds s t k = record {
       other-fresh s t x h a l (hist s t (other x)) is b (k.ranges.fresh (other x)) (λ g there granted granted_there same. k.known.apart x h g job there granted granted_there same) in
       record {
         units = subst (λ (o : Option Act). IfSome o (λ c. AreUnits (log_after c l (log t)))) is (units-after s t x h l _ b);
+        file = subst (λ (o : Option Act). IfSome o (λ c. AreOfFile s.settings.file (log_after c l (log t)))) is (file-after s t x h l _ b);
         below = subst (λ (o : Option Act). IfSome o (Below s t l)) is (below-after s t x h l _ b);
         values = subst (λ (o : Option Act). IfSome o (Valued s t l)) is (values-after s t x h l _ b);
         fresh = sites-after s t x (inc_at a (Some h)) a l (λ y. IsFresh (log_after a l (log t)))
@@ -161,19 +162,19 @@ range-kinds s t k = record {
   quiet = λ x i a quiet.
       quiet-ranges s t x i a quiet (quiet-after s t x a (hist s t x) (IsFresh (log t)) quiet (quiet-fresh s t x a (hist s t x) quiet (k.ranges.fresh x))) k.ranges;
   stop = λ x i cut. record {
-    units = k.ranges.units;
+    units = k.ranges.units; file = k.ranges.file;
     below = k.ranges.below;
     values = k.ranges.values;
     fresh = sites-after s t x i act.NoAct (land.Stop cut) (λ y. IsFresh (log t)) tt refl (k.ranges.fresh (other x));
   };
   active = λ x. record {
-    units = k.ranges.units;
+    units = k.ranges.units; file = k.ranges.file;
     below = k.ranges.below;
     values = k.ranges.values;
     fresh = sites-after s t x 0 act.StartActive land.Full (λ y. IsFresh (log t)) (λ granted. false-true granted) refl (k.ranges.fresh (other x));
   };
   standby = λ x. record {
-    units = k.ranges.units;
+    units = k.ranges.units; file = k.ranges.file;
     below = k.ranges.below;
     values = k.ranges.values;
     fresh = sites-after s t x 0 act.StartStandby land.Full (λ y. IsFresh (log t)) (λ granted. false-true granted) refl (k.ranges.fresh (other x));
@@ -190,4 +191,4 @@ range-kinds s t k = record {
 
 -- of no unit, no number and no put at first
 pub first-ranges : (s : Scen) → InRanges s []
-first-ranges s = record { units = tt; below = λ n used. false-true used; fresh = λ x. tt; values = λ unit r before fits. fits }
+first-ranges s = record { units = tt; file = tt; below = λ n used. false-true used; fresh = λ x. tt; values = λ unit r before fits. fits }

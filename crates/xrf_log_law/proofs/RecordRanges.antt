@@ -18,7 +18,7 @@ use Rattle.xrf_trace.specs.declared.entry.Entry.{Entry}
 use Rattle.xrf_trace.specs.Scenario.{Scen, settings, first_value}
 use Rattle.xrf_trace.specs.Jobs.{hist}
 use Rattle.xrf_trace.specs.Book.{book, puts, value_after}
-use Rattle.xrf_log_law.specs.Ranges.{uses, InRanges}
+use Rattle.xrf_log_law.specs.Ranges.{uses, InRanges, IsOfFile}
 use Rattle.xrf_log_law.specs.AtWork.{Ledgers, IsOpenUnit, Last, PlanNamed, RollLast}
 use Rattle.xrf_log_law.specs.Serving.{ServesWork, site_view}
 use Rattle.xrf_log_law.specs.State.{view, RecordDue, State}
@@ -37,9 +37,10 @@ abbrev pub IsOf : ℕ → List LogRec → UnitId → Bool → Type 0
 IsOf n log unit true = unit.inc ≡ n
 IsOf n log unit false = uses unit.inc log ≡ true
 
-pub record HandRanged (n : ℕ) (log : List LogRec) (restarted : Bool) (rec : LogRec) : Type 0 where
+pub record HandRanged (file n : ℕ) (log : List LogRec) (restarted : Bool) (rec : LogRec) : Type 0 where
   pub ranged : IsLogRecord rec
   pub of : IsOf n log (unit_of rec) restarted
+  pub file_of : IsOfFile file rec
 
 -- a job that is_active, at work
 pub record Working (s : Scen) (t : List Entry) (x : Site) (h : List Event) : Type 0 where
@@ -74,7 +75,7 @@ image-size s t l unit k before scen ranges state is last here due =
 
 work-ranged : (s : Scen) (t : List Entry) (x : Site) (h : List Event) (slot : List ℕ) (rec : LogRec) (plan : Plan) → IsInRanges s → InRanges s t → State s.settings.log (first_value s) (view s t) → Working s t x h
     → record_of_plan plan slot ≡ Some rec → PlanRrn s.settings.file plan → PlanNamed (ledger (settings s x) h).units plan → RollLast (first_value s) (view s t) plan → RecordDue s.settings.log (first_value s) (view s t) rec
-    → HandRanged (number h) (log t) true rec
+    → HandRanged s.settings.file (number h) (log t) true rec
 work-ranged s t x h slot (Put unit rrn before) (plans.Put u k value place) scen ranges state w hand fits named last due =
     let parts = same-put u unit k rrn slot before hand in
     let here : IsOpenUnit unit (ledger (settings s x) h).units = subst (λ (q : UnitId). IsOpenUnit q (ledger (settings s x) h).units) parts.0 named in
@@ -89,13 +90,14 @@ work-ranged s t x h slot (Put unit rrn before) (plans.Put u k value place) scen 
         },
       );
       of = own.1;
+      file_of = (omega (arith, parts.1, fits.0), omega (arith, parts.1, fits.1));
     }
 work-ranged s t x h slot (Commit unit) (plans.Commit u place) scen ranges state w hand fits named last due =
     let own = open-unit s t x h unit w (subst (λ (q : UnitId). IsOpenUnit q (ledger (settings s x) h).units) (same-commit u unit hand) named) in
-    record { ranged = own.0; of = own.1 }
+    record { ranged = own.0; of = own.1; file_of = tt }
 work-ranged s t x h slot (Backout unit) (plans.Roll u place) scen ranges state w hand fits named last due =
     let own = open-unit s t x h unit w (subst (λ (q : UnitId). IsOpenUnit q (ledger (settings s x) h).units) (same-backout u unit hand) named) in
-    record { ranged = own.0; of = own.1 }
+    record { ranged = own.0; of = own.1; file_of = tt }
 work-ranged s t x h slot rec (plans.Get k) scen ranges state w hand fits named last due = absurd (cc)
 work-ranged s t x h slot rec (plans.Answer a) scen ranges state w hand fits named last due = absurd (cc)
 work-ranged s t x h slot (Commit unit) (plans.Put u k value place) scen ranges state w hand fits named last due = absurd (cc)
@@ -106,21 +108,21 @@ work-ranged s t x h slot (Put unit rrn before) (plans.Commit u place) scen range
 work-ranged s t x h slot (Put unit rrn before) (plans.Roll u place) scen ranges state w hand fits named last due = absurd (cc)
 
 -- in a restart
-restart-ranged : (s : Scen) (t : List Entry) (n : ℕ) (left : List UnitId) (rec : LogRec) → InRanges s t → record_of_restart left ≡ Some rec → RecordDue s.settings.log (first_value s) (view s t) rec → HandRanged n (log t) false rec
+restart-ranged : (s : Scen) (t : List Entry) (n : ℕ) (left : List UnitId) (rec : LogRec) → InRanges s t → record_of_restart left ≡ Some rec → RecordDue s.settings.log (first_value s) (view s t) rec → HandRanged s.settings.file n (log t) false rec
 restart-ranged s t n [] rec ranges hand due = absurd (cc)
 restart-ranged s t n (unit ∷ left) (Backout u) ranges hand due =
     let found = flight-unit u (log t) due.0 ranges.units in
-    record { ranged = found.0; of = found.1 }
+    record { ranged = found.0; of = found.1; file_of = tt }
 restart-ranged s t n (unit ∷ left) (Put u rrn before) ranges hand due = absurd (cc)
 restart-ranged s t n (unit ∷ left) (Commit u) ranges hand due = absurd (cc)
 
 -- the record at hand
 pub hand-ranged : (s : Scen) (t : List Entry) (x : Site) (h : List Event) (rec : LogRec) → IsInRanges s → InRanges s t → State s.settings.log (first_value s) (view s t)
     → (is_restarted h ≡ true → Working s t x h × PlanNamed (ledger (settings s x) h).units (plan_of_job (settings s x) h) × RollLast (first_value s) (view s t) (plan_of_job (settings s x) h))
-    → record_at_hand (settings s x) h ≡ Some rec → RecordDue s.settings.log (first_value s) (view s t) rec → HandRanged (number h) (log t) (is_restarted h) rec
+    → record_at_hand (settings s x) h ≡ Some rec → RecordDue s.settings.log (first_value s) (view s t) rec → HandRanged s.settings.file (number h) (log t) (is_restarted h) rec
 hand-ranged s t x h rec scen ranges state at hand due = by (is_restarted h) refl
   where
-    by : (b : Bool) → is_restarted h ≡ b → HandRanged (number h) (log t) b rec
+    by : (b : Bool) → is_restarted h ≡ b → HandRanged s.settings.file (number h) (log t) b rec
     by true is =
         let here = at is in
         work-ranged s t x h (slot_read h) rec (plan_of_job (settings s x) h) scen ranges state here.0 (sym (plan-hand (settings s x) h is) ∙ hand) (rrn-of (settings s x) h) here.1 here.2 due

@@ -1,5 +1,5 @@
 -- What the steps of a world ask of the log, the keypoints and the file.
-use Rattle.std.specs.Prelude.{IsTrue, List, is_some, ◌≡◌, ◌<◌, ◌%◌, Option, ℕ, length, true, ◌+◌, ◌≤◌, IfSome}
+use Rattle.std.specs.Prelude.{IsTrue, List, is_some, ◌≡◌, ◌<◌, ◌%◌, Option, ℕ, length, true, ◌+◌, ◌≤◌, IfSome, ◌*◌}
 use Rattle.xrf_base.specs.Values.{SlotIs}
 use Rattle.xrf_base.specs.declared.site.Site.{Site}
 use Rattle.xrf_gated.specs.declared.gated.TheConstants.{OPEN}
@@ -39,6 +39,7 @@ ReadsSlot s t _ = Unit {0}
 -- the records that are scanned, and with the last block their flight too, have room in the log
 pub record ScanFits (size : ℕ) (found : Scanned) : Type 0 where
   pub records : length found.records ≤ size
+  pub block : 64 * found.block + 64 ≤ size
   pub flight : found.ended ≡ true → length found.records + length (flight found.records) ≤ size
 
 -- of the job of a site, and of each
@@ -48,14 +49,28 @@ JobScanFits s x h = ScanFits s.settings.log (scan (settings s x) h)
 abbrev pub ScansFit : Scen → List Entry → Type 0
 ScansFit s t = (x : Site) → IfSome (hist s t x) (JobScanFits s x)
 
-pub record WorldConditions (s : Scen) (t : List Entry) : Type 0 where
-  pub written : Each (λ t e. MayBeWritten s t e.act) t
-  pub slots : Each (λ t e. ReadsSlot s t e.act) t
-  pub scans : ScansFit s t
-
--- the keypoints that stand in open slots are few
+-- the numbers and starts of the keypoints that stand in open KEY slots are small
 abbrev pub IsSmall : ℕ → Keypoint → Type 0
 IsSmall n keypoint = (keypoint.number ≤ n) × (keypoint.start ≤ n)
 
 abbrev pub KeysAreSmall : List Entry → Type 0
 KeysAreSmall t = (i : ℕ) → IfSome (keypoint_at (key_slot t i)) (IsSmall (length t))
+
+-- an act is within its data set: the blocks of the log, and the records of the file
+abbrev pub IsOfRecord : Scen → ℕ → Type 0
+IsOfRecord s k = (1 ≤ k) × (k ≤ s.settings.file)
+
+abbrev pub IsWithin : Scen → Act → Type 0
+IsWithin s (act.LogRead b) = 64 * b + 64 ≤ s.settings.log
+IsWithin s (act.FileRead k) = IsOfRecord s k
+IsWithin s (act.FileWrite unit k value) = IsOfRecord s k
+IsWithin s (act.Undo k before) = IsOfRecord s k
+IsWithin s _ = Unit {0}
+
+-- all of it
+pub record WorldConditions (s : Scen) (t : List Entry) : Type 0 where
+  pub within : Each (λ t e. IsWithin s e.act) t
+  pub written : Each (λ t e. MayBeWritten s t e.act) t
+  pub reads : Each (λ t e. ReadsSlot s t e.act) t
+  pub scans : ScansFit s t
+  pub keys : KeysAreSmall t

@@ -4,7 +4,7 @@ pub mod State
 pub mod BeforeImages
 pub mod Due
 pub mod Jobs
-pub mod Laws
+pub mod DataSets
 pub mod AtWork
 pub mod Soundness
 pub mod Serving

@@ -1,4 +1,5 @@
-//! The law of the log: what the log, the keypoints and the file hold of every run.
+//! The law of the log: what holds of the log, the keypoints and the file of every run. It has no code; its proof is the
+//! clause of an empty function.
 #![tactic(auto)]
 
 mod laws;

@@ -50,21 +50,21 @@ keyword-kept word key reason h = by (bytes_eq word key) refl h
     by false e k = absurd (cc)
 
 -- a word without a fault is of its part
-part-found : (part : Part) (word : List ℕ) → wrong part word ≡ None → operand_fault part word ≡ None → IsOfPart part word
-part-found (Keyword keyword reason) word w h = keyword-kept word (keyword_text keyword) reason w
-part-found (Refused keyword reason) word w h = absurd (cc)
-part-found Site word w h = kept _ _ h
-part-found (Number least most) word w h =
+pub part_found : (part : Part) (word : List ℕ) → wrong part word ≡ None → operand_fault part word ≡ None → IsOfPart part word
+part_found (Keyword keyword reason) word w h = keyword-kept word (keyword_text keyword) reason w
+part_found (Refused keyword reason) word w h = absurd (cc)
+part_found Site word w h = kept _ _ h
+part_found (Number least most) word w h =
     let k = number-kept (λ n. nat_le least n && nat_le n most) (number_of word) h in
     record { value = k.0; spelled = k.1; low = leb-true least k.0 (and_parts _ _ k.2).0; high = leb-true k.0 most (and_parts _ _ k.2).1; also_kept = refl }
-part-found (Multiple least most unit) word w h =
+part_found (Multiple least most unit) word w h =
     let k = number-kept (λ n. nat_le least n && nat_le n most && is_multiple_of n unit) (number_of word) h in
     let range = (and_parts _ _ k.2).0 in
     record { value = k.0; spelled = k.1; low = leb-true least k.0 (and_parts _ _ range).0; high = leb-true k.0 most (and_parts _ _ range).1; also_kept = (and_parts _ _ k.2).1 }
-part-found Name word w h = kept _ _ h
-part-found Value word w h = kept _ _ h
-part-found Hex word w h = kept _ _ h
-part-found Words word w h = tt
+part_found Name word w h = kept _ _ h
+part_found Value word w h = kept _ _ h
+part_found Hex word w h = kept _ _ h
+part_found Words word w h = tt
 
 -- words without a fault, as many as the form takes, are of the form
 pub form-found : (parts : List Part) (ws : List (List ℕ)) → takes parts ws ≡ true → first_fault parts ws ≡ None → AreOfForm parts ws
@@ -77,7 +77,7 @@ form-found (part ∷ parts) (word ∷ ws) t h = by (takes_all part parts) (λ e 
     by true rest e = tt
     by false rest e =
         let k = no_fault (wrong part word) (operand_fault part word) (first_fault parts ws) h in
-        (part-found part word k.0 k.1, rest e k.2)
+        (part_found part word k.0 k.1, rest e k.2)
 
 -- the form that is chosen is one of the forms, and takes so many words
 chosen : (most : ℕ) (forms : List Form) (ws : List (List ℕ)) (form : Form) → fitting most forms ws ≡ Some form

@@ -12,3 +12,5 @@ pub mod WrittenChoices
 pub mod WrittenLines
 pub mod LineAgain
 pub mod FaultLaws
+pub mod BeginningLaws
+pub mod SpelledLaws

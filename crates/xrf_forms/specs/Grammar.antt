@@ -51,6 +51,10 @@ abbrev pub IsAmong : Form → List Form → Type 0
 IsAmong form [] = ⊥
 IsAmong form (other ∷ forms) = (other ≡ form) ⊎ IsAmong form forms
 
+-- each of some forms is among others
+abbrev pub AreAmong : List Form → List Form → Type 0
+AreAmong forms all = (form : Form) → IsAmong form forms → IsAmong form all
+
 -- some words spell a line by the forms of a part of the text
 pub record Spells (forms : List Form) (ws : List (List ℕ)) (says : Line) : Type 0 where
   pub form : Form

@@ -21,7 +21,7 @@ fn keyword(part: Part) -> Option<Keyword>
 }
 
 /// The reason for which a word is wrong in the place of a keyword.
-fn fault_of_keyword(part: Part, word: &[u8]) -> Option<Reason>
+pub(crate) fn fault_of_keyword(part: Part, word: &[u8]) -> Option<Reason>
     ensures { result ≡ wrong part word.now }
 {
     match part {

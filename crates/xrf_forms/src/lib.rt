@@ -1,6 +1,7 @@
 //! The forms of the lines of a scenario, as a table, and how a line is read by it.
 #![tactic(auto)]
 
+mod beginning;
 mod fitting;
 pub mod form;
 mod hex;
@@ -12,6 +13,7 @@ mod operand;
 pub mod reading;
 pub mod reason;
 mod saying;
+mod spelled;
 mod table;
 mod word;
 pub mod writing;

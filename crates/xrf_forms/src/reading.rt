@@ -11,6 +11,7 @@ use crate::form::Form;
 use crate::line::Line;
 use crate::reason::Reason;
 use crate::saying::say;
+use crate::spelled::{choice_by_first_word, setting_by_first_word};
 use crate::table::{choices, settings};
 use crate::word::{first_word, second_word};
 use xrf_setup::Format;
@@ -36,7 +37,10 @@ pub fn read_setting(format: Format, line: &[u8]) -> Result<Line, Reason>
     ensures none { IfErr result (λ reason. AreOfNone (settings_of format) (words line.now)) }
     ensures exact { result ≡ line_of (settings_of format) (words line.now) }
 {
-    read_by_form(settings(format), line)
+    match setting_by_first_word(format, line) {
+        Some(says) => Ok(says),
+        None => read_by_form(settings(format), line),
+    }
 }
 
 /// What a line behind the line CHOICES says, or the first reason for which it is none. The line has
@@ -47,7 +51,10 @@ pub fn read_choice(line: &[u8]) -> Result<Line, Reason>
     ensures none { IfErr result (λ reason. AreOfNone choices_table (words line.now)) }
     ensures exact { result ≡ line_of choices_table (words line.now) }
 {
-    read_by_form(choices(), line)
+    match choice_by_first_word(line) {
+        Some(says) => Ok(says),
+        None => read_by_form(choices(), line),
+    }
 }
 
 fn read_by_form(forms: &[Form], line: &[u8]) -> Result<Line, Reason>

@@ -1,20 +1,12 @@
 //! The lines of a text, and which of them are skipped.
 
 ghost use Rattle.std.specs.Prelude.{◌≡◌, ◌+◌, ◌<◌, ◌≤◌, ◌∷◌, [], length, drop, MatchOption, IfSome};
-ghost use Rattle.std.specs.List.{position, list_all};
-ghost use Rattle.xrf_text.specs.Text.{is_line_feed, words};
+ghost use Rattle.xrf_text.specs.Text.{words};
 ghost use Rattle.xrf_scenario.specs.Lines.{text_lines, without_return, begins_with, are_none, is_skipped, is_report, bytes_fault};
-ghost use Rattle.xrf_text.specs.Text.{is_printable};
 
 use xrf_forms::Reason;
 use xrf_setup::ranges::LINE_MOST;
-use xrf_text::split_word;
-
-fn first_feed(text: &[u8]) -> Option<usize>
-    ensures { result ≡ position is_line_feed text.now }
-{
-    text.iter().position(|b| *b == b'\n')
-}
+use xrf_text::{first_line_feed, is_printable, split_word};
 
 fn behind(text: &[u8], count: usize) -> &[u8]
     requires { count ≤ length text.now }
@@ -41,7 +33,7 @@ pub fn next_line(text: &[u8]) -> Option<(&[u8], &[u8])>
     if text.is_empty() {
         return None;
     }
-    match first_feed(text) {
+    match first_line_feed(text) {
         Some(count) => Some((without_return(&text[..count]), behind(text, count + 1))),
         None => Some((text, &[])),
     }
@@ -79,17 +71,11 @@ pub fn is_report(line: &[u8]) -> bool
     begins_with(b'*', line)
 }
 
-fn is_text(line: &[u8]) -> bool
-    ensures { result ≡ list_all is_printable line.now }
-{
-    line.iter().all(|b| matches!(*b, b' '..=b'~'))
-}
-
 /// What is wrong with the bytes of a line.
 pub fn bytes_fault(line: &[u8]) -> Option<Reason>
     ensures { result ≡ bytes_fault line.now }
 {
-    if !is_text(line) {
+    if !is_printable(line) {
         return Some(Reason::BadByte);
     }
     if line.len() > LINE_MOST {

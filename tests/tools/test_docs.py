@@ -1,4 +1,5 @@
-"""What README, the man page and docs/CONCEPTS.md tell a user to type is run, and what they point to is there."""
+"""What README, the man page, docs/CONCEPTS.md and docs/SCENARIOS.md tell a user to type is run, and what they point to is
+there."""
 
 import os
 import re
@@ -13,6 +14,7 @@ import runs
 PROGRAM = runs.ROOT / "crates" / "xrf" / "out" / "xrf"
 README = (runs.ROOT / "README.md").read_text()
 MAN = (runs.ROOT / "tools" / "man" / "xrf.1").read_text()
+SCENARIOS = (runs.ROOT / "docs" / "SCENARIOS.md").read_text()
 
 
 def commands() -> list[str]:
@@ -20,6 +22,12 @@ def commands() -> list[str]:
     of_readme = re.findall(r"^    (\./xrf [^#\n]*?) *(?:#.*)?$", README, re.M)
     of_man = re.findall(r"^xrf .*$", MAN.split(".SH EXAMPLES")[1], re.M)
     return of_readme + [line.replace("xrf ", "./xrf ").replace("&& ./", "&& ") for line in of_man]
+
+
+def scenarios() -> list[str]:
+    """The scenarios of docs/SCENARIOS.md from the header to END, without what stands behind three blanks."""
+    found = re.findall(r"^    XRF [12](?: {3}.*)?\n(?:    .*\n)*?    END(?: {3}.*)?$", SCENARIOS, re.M)
+    return ["".join(re.sub(r" {3}.*", "", line[4:]) + "\n" for line in text.splitlines()) for text in found]
 
 
 def wants_program(command: str) -> bool:
@@ -62,6 +70,15 @@ class Commands(unittest.TestCase):
         self.assertIn("1 act was made", done.stdout)
         self.assertIn("Right would be: STEP A 11.", done.stdout)
         self.assertEqual(done.stderr, "")
+
+    @unittest.skipUnless(is_current(), "the program is not built, so no scenario of docs/SCENARIOS.md was run")
+    def test_each_scenario_of_the_page_of_the_language_runs(self) -> None:
+        found = scenarios()
+        self.assertEqual(len(found), SCENARIOS.count("\n    XRF "))
+        self.assertGreaterEqual(len(found), 2)
+        for text in found:
+            done = subprocess.run([str(PROGRAM), "replay"], input=text, capture_output=True, text=True, timeout=120, check=False)
+            self.assertEqual((done.returncode, done.stderr), (0, ""), text + done.stdout)
 
     @unittest.skipUnless(is_current(), "the program is not built, so the short session of README was not run")
     def test_the_short_session_is_what_is_written(self) -> None:

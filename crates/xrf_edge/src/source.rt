@@ -9,7 +9,7 @@ use std::alloc::Global;
 use thiserror::Error;
 
 /// How many bytes are asked for at once.
-const PIECE: usize = 65536;
+const PIECE: usize = 4096;
 
 /// A source of bytes. It may tell the bytes that it has left, and it counts its faults.
 pub trait Source {

@@ -7,7 +7,7 @@ use Rattle.xrf.specs.Made.{IsDocument, IsMade}
 use Rattle.xrf.specs.Answer.{End, Said, Refusing, WritesMade, Replayed, Writes, Refuses, IsText}
 use Rattle.xrf.specs.declared.refusal.Reason.{Reason}
 use Rattle.xrf.specs.declared.refusal.Reason.TheVariants.{Grammar}
-use Rattle.xrf_forms.specs.declared.reason.Reason.TheVariants.{TooLarge}
+use Rattle.xrf_grammar.specs.declared.reason.Reason.TheVariants.{TooLarge}
 use Rattle.xrf.specs.declared.made.Made.{Made}
 use Rattle.xrf.specs.declared.made.Made.TheVariants.{Document, Refusal, NoMemory as Nothing}
 use Rattle.xrf.specs.declared.status.Status.{Status}

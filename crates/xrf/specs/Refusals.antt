@@ -9,8 +9,8 @@ use Rattle.xrf_setup.specs.declared.choice.Choice.{Choice}
 use Rattle.xrf_setup.specs.declared.ranges.TheConstants.{INPUT_MOST}
 use Rattle.xrf_scenario.specs.declared.built.Forms.TheVariants.{Built}
 use Rattle.xrf_scenario.specs.declared.numbered.Numbered.{Numbered}
-use Rattle.xrf_forms.specs.declared.reason.Reason as grammar
-use Rattle.xrf_forms.specs.declared.reason.Reason.TheVariants.{TooLarge, BadByte, LongLine, NoHeader, BadFormat, ChoicesGiven, AfterEnd, UnknownWord, WordCount, BadSite, BadNumber, OutOfRange, BadName, BadValue, BadHex, BadOption, BadItem, BadCebt, BadPlan, PlanOrder, Twice, TooMany, RrnRange, NoEnd, NotBuilt}
+use Rattle.xrf_grammar.specs.declared.reason.Reason as grammar
+use Rattle.xrf_grammar.specs.declared.reason.Reason.TheVariants.{TooLarge, BadByte, LongLine, NoHeader, BadFormat, ChoicesGiven, AfterEnd, UnknownWord, WordCount, BadSite, BadNumber, OutOfRange, BadName, BadValue, BadHex, BadOption, BadItem, BadCebt, BadPlan, PlanOrder, Twice, TooMany, RrnRange, NoEnd, NotBuilt}
 use Rattle.xrf_world.specs.Base.{base_of}
 use Rattle.xrf_world.specs.declared.entry.Refused.{Refused}
 use Rattle.xrf_world.specs.declared.entry.Refused.TheVariants.{NotEnabled}

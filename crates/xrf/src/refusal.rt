@@ -5,7 +5,7 @@ ghost use Rattle.xrf.specs.Refusals.{grammar_text, choosing_text, reason_text, r
 
 use Piece::{Number, Text};
 use std::alloc::{AllocError, Global};
-use xrf_forms::writing::{Piece, put};
+use xrf_grammar::writing::{Piece, put};
 use xrf_scenario::Reason as Fault;
 use xrf_world::Refused;
 

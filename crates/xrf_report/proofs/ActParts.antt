@@ -4,7 +4,7 @@ use Rattle.std.specs.Fmt.{decimal}
 use Rattle.xrf_base.specs.declared.items.UnitId.{UnitId}
 use Rattle.xrf_base.specs.declared.site.Site.{Site}
 use Rattle.xrf_base.specs.declared.site.Site.TheVariants.{A as SiteA, B as SiteB}
-use Rattle.xrf_forms.specs.Spelling.{site_word}
+use Rattle.xrf_grammar.specs.Spelling.{site_word}
 use Rattle.xrf_report.specs.Acts.{who_text, owner_state_text, owner_text, control_text, signal_text, decided_text, unit_text, log_text, act_text, entry_text}
 use Rattle.xrf_report.specs.Fits.{OwnerFits, ControlFits, SignalFits, UnitFits, LogFits, ActFits, EntryFits}
 use Rattle.xrf_report.specs.Words.{blank, dot}

@@ -15,8 +15,8 @@ use Rattle.xrf_cebt.specs.declared.commands.Cebt.TheVariants.{PerformTakeover, P
 use Rattle.xrf_exit.specs.declared.ExitAnswer.{ExitAnswer}
 use Rattle.xrf_exit.specs.declared.ExitAnswer.TheVariants as answer
 use Rattle.xrf_clt.specs.Kept.{Kept}
-use Rattle.xrf_forms.specs.LineText.{line_text}
-use Rattle.xrf_forms.specs.Spelling.{hex_text, site_text, answer_word, go_text, landed_text, choice_text}
+use Rattle.xrf_grammar.specs.LineText.{line_text}
+use Rattle.xrf_grammar.specs.Spelling.{hex_text, site_text, answer_word, go_text, landed_text, choice_text}
 use Rattle.xrf_setup.specs.Choices.{HasLine}
 use Rattle.xrf_setup.specs.declared.choice.Choice.{Choice}
 use Rattle.xrf_setup.specs.declared.choice.Choice.TheVariants as choice
@@ -24,8 +24,8 @@ use Rattle.xrf_setup.specs.declared.choice.Landing.{Landing}
 use Rattle.xrf_setup.specs.declared.choice.Landing.TheVariants.{Nothing, All, Torn}
 use Rattle.xrf_setup.specs.declared.format.Format.{Format}
 use Rattle.xrf_setup.specs.declared.format.Format.TheVariants.{One, Two}
-use Rattle.xrf_forms.specs.declared.line.Line.TheVariants.{Record, Work, Plan, End}
-use Rattle.xrf_forms.specs.Plain.{IsPlain}
+use Rattle.xrf_grammar.specs.declared.line.Line.TheVariants.{Record, Work, Plan, End}
+use Rattle.xrf_grammar.specs.Plain.{IsPlain}
 use Rattle.xrf_scenario.proofs.PlainLaws.{file-most, scenario-plain}
 use Rattle.xrf_scenario.specs.Canonical.{fed, text_of, records_said, clt_said, plan_said, scenario_lines, choice_lines, canon, AreChoices}
 use Rattle.xrf_setup.specs.Scenario.{Scen, IsScen, AreRecords}

@@ -2,7 +2,7 @@
 use Rattle.std.specs.Prelude.{ℕ, List, ◌++◌, codes, Option, Some, None}
 use Rattle.std.specs.Fmt.{decimal}
 use Rattle.xrf_base.specs.declared.items.UnitId.{UnitId}
-use Rattle.xrf_forms.specs.Spelling.{site_word}
+use Rattle.xrf_grammar.specs.Spelling.{site_word}
 use Rattle.xrf_report.specs.Words.{blank, dot}
 use Rattle.xrf_world.specs.declared.act.Act.{Act}
 use Rattle.xrf_world.specs.declared.act.Act.TheVariants.{StartActive, Reserve, CtlRead, CtlWrite, Release, Signal1, Signal2, Look1, Look2, Decide, LogRead, LogBody, LogOpen, FileRead, FileWrite, Item, Restarted}

@@ -3,7 +3,7 @@
 ghost use Rattle.std.specs.Prelude.{◌≡◌, ◌++◌, OnOk, codes};
 ghost use Rattle.std.specs.Fmt.{decimal};
 ghost use Rattle.xrf_base.specs.Values.{IsValue};
-ghost use Rattle.xrf_forms.specs.declared.writing.Piece.TheVariants.{Number};
+ghost use Rattle.xrf_grammar.specs.declared.writing.Piece.TheVariants.{Number};
 ghost use Rattle.xrf_report.specs.Words.{blank};
 ghost use Rattle.xrf_report.specs.Fits.{Is64, OwnerFits, ControlFits, SignalFits, UnitFits, LogFits, ActFits, EntryFits};
 ghost use Rattle.xrf_report.specs.Acts.{who_text, owner_text, owner_state_text, control_text, signal_text, decided_text, unit_text, log_text, act_text, entry_text};
@@ -11,7 +11,7 @@ ghost use Rattle.xrf_report.specs.Acts.{who_text, owner_text, owner_state_text, 
 use Piece::{Number, Text};
 use std::alloc::{AllocError, Global};
 use xrf_base::{UnitId, Value};
-use xrf_forms::writing::{Piece, put, site_word};
+use xrf_grammar::writing::{Piece, put, site_word};
 use xrf_world::{Act, Control, Decided, Entry, LogRec, Owner, OwnerState, Signal, Who};
 
 /// The piece of a number.

@@ -14,7 +14,7 @@ use crate::acts::{digits, put_control, put_entry};
 use Piece::Text;
 use std::alloc::{AllocError, Global};
 use xrf_base::{ItemAnswer, Value};
-use xrf_forms::writing::{Piece, put};
+use xrf_grammar::writing::{Piece, put};
 use xrf_world::{Entry, ItemState, JobState, LogCounts, World};
 
 fn put_act_line(

@@ -6,7 +6,7 @@ use Rattle.std.proofs.lemmas.Bool.{le-leb}
 use Rattle.xrf_base.specs.declared.items.Item.{Item}
 use Rattle.xrf_base.specs.declared.site.Site.TheVariants.{A, B}
 use Rattle.xrf_setup.specs.declared.choice.Choice.{Choice}
-use Rattle.xrf_forms.specs.declared.line.Line.TheVariants.{Images, Work, Plan, Once}
+use Rattle.xrf_grammar.specs.declared.line.Line.TheVariants.{Images, Work, Plan, Once}
 use Rattle.xrf_scenario.specs.Built.{is_built_format, is_built_choice, allows, allows_format, IsBuilt, AreBuilt, AreAllowed}
 use Rattle.xrf_setup.specs.Scenario.{Scen}
 use Rattle.xrf_scenario.specs.SoFar.{SoFar}

@@ -5,9 +5,9 @@ use Rattle.xrf_base.specs.declared.items.Item.{Item}
 use Rattle.xrf_base.specs.declared.site.Site.TheVariants.{A, B}
 use Rattle.xrf_setup.specs.declared.choice.Choice.{Choice}
 use Rattle.xrf_setup.specs.declared.format.Format.{Format}
-use Rattle.xrf_forms.specs.declared.line.Line.TheVariants.{Work}
-use Rattle.xrf_forms.specs.Plain.{IsPlain}
-use Rattle.xrf_forms.specs.LineText.{line_text}
+use Rattle.xrf_grammar.specs.declared.line.Line.TheVariants.{Work}
+use Rattle.xrf_grammar.specs.Plain.{IsPlain}
+use Rattle.xrf_grammar.specs.LineText.{line_text}
 use Rattle.xrf_scenario.specs.Canonical.{text_of, records_said, clt_said, plan_said, scenario_lines, choice_lines, canon, numbered_from, at_lines, AreChoices, IsReportLine, IsReport, ReadAgain}
 use Rattle.xrf_scenario.specs.Lines.{text_lines}
 use Rattle.xrf_scenario.specs.Reading.{begun, SaysAll}

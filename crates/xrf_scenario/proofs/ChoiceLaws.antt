@@ -4,10 +4,10 @@ use Rattle.std.specs.List.{AllByRecursion}
 use Rattle.std.proofs.lemmas.Bool.{le-leb}
 use Rattle.xrf_text.specs.Text.{words}
 use Rattle.xrf_setup.specs.declared.choice.Choice.{Choice}
-use Rattle.xrf_forms.specs.declared.line.Line.TheVariants.{Choices, Once, End}
-use Rattle.xrf_forms.specs.declared.reason.Reason.TheVariants.{RrnRange}
-use Rattle.xrf_forms.specs.LineText.{line_text}
-use Rattle.xrf_forms.specs.Spelling.{choice_text}
+use Rattle.xrf_grammar.specs.declared.line.Line.TheVariants.{Choices, Once, End}
+use Rattle.xrf_grammar.specs.declared.reason.Reason.TheVariants.{RrnRange}
+use Rattle.xrf_grammar.specs.LineText.{line_text}
+use Rattle.xrf_grammar.specs.Spelling.{choice_text}
 use Rattle.xrf_setup.specs.Choices.{HasLine}
 use Rattle.xrf_scenario.specs.Built.{allows}
 use Rattle.xrf_scenario.specs.Canonical.{choice_lines, numbered_from, AreChoices}

@@ -11,15 +11,15 @@ use Rattle.xrf_clt.specs.declared.CltKind.{CltKind}
 use Rattle.xrf_clt.specs.declared.CltKind.TheVariants.{Cancel, Command, Wto}
 use Rattle.xrf_clt.proofs.Faultless.{faultless}
 use Rattle.xrf_setup.specs.declared.format.Format.{Format}
-use Rattle.xrf_forms.specs.declared.line.Line.TheVariants.{Clt}
-use Rattle.xrf_forms.specs.Grammar.{Spells}
-use Rattle.xrf_forms.specs.Plain.{IsPlain}
+use Rattle.xrf_grammar.specs.declared.line.Line.TheVariants.{Clt}
+use Rattle.xrf_grammar.specs.Grammar.{Spells}
+use Rattle.xrf_grammar.specs.Plain.{IsPlain}
 use Rattle.xrf_setup.specs.Ranges.{IsIn}
-use Rattle.xrf_forms.specs.LineText.{IsCommand}
-use Rattle.xrf_forms.proofs.FormLaws.{line-found}
-use Rattle.xrf_forms.proofs.LineAgain.{clt_again}
-use Rattle.xrf_forms.specs.Places.{behind}
-use Rattle.xrf_forms.specs.Table.{settings_of}
+use Rattle.xrf_grammar.specs.LineText.{IsCommand}
+use Rattle.xrf_grammar.proofs.FormLaws.{line-found}
+use Rattle.xrf_grammar.proofs.LineAgain.{clt_again}
+use Rattle.xrf_grammar.specs.Places.{behind}
+use Rattle.xrf_grammar.specs.Table.{settings_of}
 use Rattle.xrf_scenario.specs.Canonical.{clt_said}
 use Rattle.xrf_setup.specs.Commands.{kept_text, IsKept}
 use Rattle.xrf_text.specs.Text.{is_printable}
@@ -29,7 +29,7 @@ use Rattle.xrf_scenario.specs.Taking.{take, with_room}
 use Rattle.xrf_scenario.specs.declared.built.Forms.{Forms}
 use Rattle.xrf_scenario.specs.declared.given.Part.TheVariants as part
 use Rattle.xrf_scenario.proofs.StepLaws.{all-then, setting-says, all-at, all-say}
-use Rattle.xrf_forms.proofs.WordLaws.{blank-free, some-word}
+use Rattle.xrf_grammar.proofs.WordLaws.{blank-free, some-word}
 use Rattle.std.proofs.lemmas.Bool.Decides.{nat_tests}
 use Rattle.xrf_scenario.proofs.TextLaws.{all-both}
 use Rattle.xrf_scenario.proofs.SettingLaws.{built-allowed}

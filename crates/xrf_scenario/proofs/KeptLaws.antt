@@ -6,17 +6,17 @@ use Rattle.std.proofs.lemmas.Bool.{ltb-false, and_parts}
 use Rattle.xrf_clt.specs.Lines.{fault_of, words_kept}
 use Rattle.xrf_text.specs.Text.{words, is_blank, is_filled, IsWord}
 use Rattle.xrf_text.proofs.Joined.{words-are_words, words-joined}
-use Rattle.xrf_forms.specs.Grammar.{AreOfForm}
-use Rattle.xrf_forms.specs.Places.{first, behind}
-use Rattle.xrf_forms.specs.Reading.{line_of}
-use Rattle.xrf_forms.specs.Table.{parts_of, settings_of}
-use Rattle.xrf_forms.specs.declared.form.Form.{Form}
-use Rattle.xrf_forms.specs.declared.form.Form.TheVariants as form
+use Rattle.xrf_grammar.specs.Grammar.{AreOfForm}
+use Rattle.xrf_grammar.specs.Places.{first, behind}
+use Rattle.xrf_grammar.specs.Reading.{line_of}
+use Rattle.xrf_grammar.specs.Table.{parts_of, settings_of}
+use Rattle.xrf_grammar.specs.declared.form.Form.{Form}
+use Rattle.xrf_grammar.specs.declared.form.Form.TheVariants as form
 use Rattle.xrf_setup.specs.declared.format.Format.{Format}
-use Rattle.xrf_forms.specs.declared.line.Line.TheVariants.{Clt}
-use Rattle.xrf_forms.specs.declared.reason.Reason.{Reason}
-use Rattle.xrf_forms.specs.declared.reason.Reason.TheVariants.{BadByte, LongLine}
-use Rattle.xrf_forms.proofs.FoundLaws.{clt_found, is_clt_form}
+use Rattle.xrf_grammar.specs.declared.line.Line.TheVariants.{Clt}
+use Rattle.xrf_grammar.specs.declared.reason.Reason.{Reason}
+use Rattle.xrf_grammar.specs.declared.reason.Reason.TheVariants.{BadByte, LongLine}
+use Rattle.xrf_grammar.proofs.FoundLaws.{clt_found, is_clt_form}
 use Rattle.xrf_scenario.specs.Lines.{bytes_fault}
 use Rattle.xrf_setup.specs.Commands.{IsKept, kept_text}
 use Rattle.xrf_text.specs.Text.{is_printable}

@@ -7,13 +7,13 @@ use Rattle.xrf_clt.specs.Kept.{Kept}
 use Rattle.xrf_setup.specs.declared.choice.Choice.{Choice}
 use Rattle.xrf_setup.specs.declared.format.Format.{Format}
 use Rattle.xrf_setup.specs.declared.format.Format.TheVariants.{One}
-use Rattle.xrf_forms.specs.declared.line.Line.TheVariants.{Record, Work, Plan, Choices, End}
-use Rattle.xrf_forms.specs.Plain.{IsPlain}
-use Rattle.xrf_forms.specs.LineText.{IsSetting, line_text}
+use Rattle.xrf_grammar.specs.declared.line.Line.TheVariants.{Record, Work, Plan, Choices, End}
+use Rattle.xrf_grammar.specs.Plain.{IsPlain}
+use Rattle.xrf_grammar.specs.LineText.{IsSetting, line_text}
 use Rattle.xrf_setup.specs.Items.{IsItemOf}
-use Rattle.xrf_forms.specs.Spelling.{choice_text}
+use Rattle.xrf_grammar.specs.Spelling.{choice_text}
 use Rattle.xrf_setup.specs.Choices.{HasLine}
-use Rattle.xrf_forms.proofs.LineAgain.{header_plain, setting_plain, choosing_plain, choice_plain}
+use Rattle.xrf_grammar.proofs.LineAgain.{header_plain, setting_plain, choosing_plain, choice_plain}
 use Rattle.xrf_scenario.specs.Canonical.{records_said, clt_said, plan_said, scenario_lines, choice_lines, AreChoices}
 use Rattle.xrf_setup.specs.Scenario.{Scen, IsScen, AreRecords, ArePlanned}
 use Rattle.xrf_setup.specs.Commands.{IsKept, kept_text}

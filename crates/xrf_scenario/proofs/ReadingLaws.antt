@@ -1,15 +1,15 @@
 -- Reading goes by what each line says, and a text is read or refused in one way.
 use Rattle.std.proofs.Common.{◌≡◌, ◌+◌, inl, inr, max, ℕ, Bool, true, false, IsTrue, if◌then◌else◌, Option, Some, None, List, [], ◌∷◌, ◌++◌, length, Result, Ok, Err, refl, sym, ◌∙◌, ap, subst, append-nil, append_assoc, length-append, arith}
 use Rattle.xrf_text.specs.Text.{words}
-use Rattle.xrf_forms.proofs.ApartLaws.{line-again, settings-apart, choices-apart}
-use Rattle.xrf_forms.proofs.FormLaws.{line-found}
-use Rattle.xrf_forms.proofs.LineAgain.{header_again}
-use Rattle.xrf_forms.specs.Reading.{header_of, line_of}
-use Rattle.xrf_forms.specs.Table.{settings_of, choices_table}
+use Rattle.xrf_grammar.proofs.ApartLaws.{line-again, settings-apart, choices-apart}
+use Rattle.xrf_grammar.proofs.FormLaws.{line-found}
+use Rattle.xrf_grammar.proofs.LineAgain.{header_again}
+use Rattle.xrf_grammar.specs.Reading.{header_of, line_of}
+use Rattle.xrf_grammar.specs.Table.{settings_of, choices_table}
 use Rattle.xrf_setup.specs.declared.format.Format.{Format}
-use Rattle.xrf_forms.specs.declared.line.Line.{Line}
-use Rattle.xrf_forms.specs.declared.reason.Reason.{Reason}
-use Rattle.xrf_forms.specs.declared.reason.Reason.TheVariants.{AfterEnd, NoEnd}
+use Rattle.xrf_grammar.specs.declared.line.Line.{Line}
+use Rattle.xrf_grammar.specs.declared.reason.Reason.{Reason}
+use Rattle.xrf_grammar.specs.declared.reason.Reason.TheVariants.{AfterEnd, NoEnd}
 use Rattle.xrf_scenario.proofs.ReasonLaws.{header-found, refused-first, first-refused}
 use Rattle.xrf_scenario.specs.Built.{allows, allows_format}
 use Rattle.xrf_scenario.specs.Lines.{text_lines, is_skipped, is_report, bytes_fault}

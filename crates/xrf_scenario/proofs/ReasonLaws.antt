@@ -8,21 +8,21 @@ use Rattle.std.proofs.lemmas.Slice.Eq.{bytes_eq-Decides}
 use Rattle.xrf_base.specs.declared.site.Site.TheVariants.{A, B}
 use Rattle.xrf_clt.specs.Lines.{words_kept}
 use Rattle.xrf_text.specs.Text.{words}
-use Rattle.xrf_forms.specs.Faults.{IsFaultOf, IsFirst}
-use Rattle.xrf_forms.specs.Grammar.{IsAmong}
-use Rattle.xrf_forms.specs.Places.{first, second, behind}
-use Rattle.xrf_forms.specs.Reading.{header_of, line_of, are_two}
-use Rattle.xrf_forms.specs.Reasons.{rank}
-use Rattle.xrf_forms.specs.declared.form.Form.{Form}
+use Rattle.xrf_grammar.specs.Faults.{IsFaultOf, IsFirst}
+use Rattle.xrf_grammar.specs.Grammar.{IsAmong}
+use Rattle.xrf_grammar.specs.Places.{first, second, behind}
+use Rattle.xrf_grammar.specs.Reading.{header_of, line_of, are_two}
+use Rattle.xrf_grammar.specs.Reasons.{rank}
+use Rattle.xrf_grammar.specs.declared.form.Form.{Form}
 use Rattle.xrf_setup.specs.declared.format.Format.{Format}
 use Rattle.xrf_setup.specs.declared.format.Format.TheVariants.{One, Two}
-use Rattle.xrf_forms.specs.declared.line.Line.{Line}
-use Rattle.xrf_forms.specs.declared.line.Line.TheVariants.{Applid, Takeovr, Adi, Pdi, Log, Ring, File, Pace, Ticks, Images, Level, Xrfsoff, Record, Clt, Work, Plan, Choices, Once, Times, End}
-use Rattle.xrf_forms.specs.declared.reason.Reason.{Reason}
-use Rattle.xrf_forms.specs.declared.reason.Reason.TheVariants.{BadByte, LongLine, NoHeader, BadFormat, AfterEnd, PlanOrder, Twice, TooMany, RrnRange, NotBuilt}
-use Rattle.xrf_forms.proofs.ApartLaws.{are_apart, line-again, settings-apart, choices-apart}
-use Rattle.xrf_forms.proofs.FaultLaws.{IsLineTold, line-told, form_passes, one-first, words-told, settings-pass, choices-pass}
-use Rattle.xrf_forms.proofs.FormLaws.{line-found}
+use Rattle.xrf_grammar.specs.declared.line.Line.{Line}
+use Rattle.xrf_grammar.specs.declared.line.Line.TheVariants.{Applid, Takeovr, Adi, Pdi, Log, Ring, File, Pace, Ticks, Images, Level, Xrfsoff, Record, Clt, Work, Plan, Choices, Once, Times, End}
+use Rattle.xrf_grammar.specs.declared.reason.Reason.{Reason}
+use Rattle.xrf_grammar.specs.declared.reason.Reason.TheVariants.{BadByte, LongLine, NoHeader, BadFormat, AfterEnd, PlanOrder, Twice, TooMany, RrnRange, NotBuilt}
+use Rattle.xrf_grammar.proofs.ApartLaws.{are_apart, line-again, settings-apart, choices-apart}
+use Rattle.xrf_grammar.proofs.FaultLaws.{IsLineTold, line-told, form_passes, one-first, words-told, settings-pass, choices-pass}
+use Rattle.xrf_grammar.proofs.FormLaws.{line-found}
 use Rattle.xrf_scenario.specs.Built.{allows, allows_format}
 use Rattle.xrf_scenario.specs.Lines.{is_skipped, is_report, bytes_fault}
 use Rattle.xrf_text.specs.Text.{is_printable}

@@ -3,8 +3,8 @@ use Rattle.std.proofs.Common.{◌≡◌, ◌≤◌, ◌+◌, ◌-◌, ℕ, zero,
 use Rattle.std.specs.List.{list_all}
 use Rattle.std.proofs.lemmas.List.{length-replicate, length-append, set-append_right, drop-replicate}
 use Rattle.xrf_text.specs.Text.{words}
-use Rattle.xrf_forms.specs.LineText.{line_text}
-use Rattle.xrf_forms.specs.declared.line.Line.TheVariants.{Record}
+use Rattle.xrf_grammar.specs.LineText.{line_text}
+use Rattle.xrf_grammar.specs.declared.line.Line.TheVariants.{Record}
 use Rattle.xrf_scenario.specs.Canonical.{records_said}
 use Rattle.xrf_scenario.specs.Reading.{SaysAll}
 use Rattle.xrf_setup.specs.Scenario.{AreRecords}

@@ -7,21 +7,21 @@ use Rattle.xrf_base.specs.declared.site.Site.TheVariants.{A, B}
 use Rattle.xrf_clt.specs.Lines.{words_kept}
 use Rattle.xrf_text.specs.Text.{words}
 use Rattle.xrf_setup.specs.Items.{IsItemOf}
-use Rattle.xrf_forms.specs.LineText.{IsSetting, IsChoosing, is_timed}
+use Rattle.xrf_grammar.specs.LineText.{IsSetting, IsChoosing, is_timed}
 use Rattle.xrf_setup.specs.Choices.{is_planned, HasLine}
-use Rattle.xrf_forms.specs.Places.{behind}
-use Rattle.xrf_forms.specs.Reading.{line_of}
-use Rattle.xrf_forms.specs.Table.{settings_of, choices_table}
+use Rattle.xrf_grammar.specs.Places.{behind}
+use Rattle.xrf_grammar.specs.Reading.{line_of}
+use Rattle.xrf_grammar.specs.Table.{settings_of, choices_table}
 use Rattle.xrf_setup.specs.declared.choice.Choice.{Choice}
 use Rattle.xrf_setup.specs.declared.choice.Choice.TheVariants as choice
 use Rattle.xrf_setup.specs.declared.format.Format.{Format}
 use Rattle.xrf_setup.specs.declared.format.Format.TheVariants.{One, Two}
-use Rattle.xrf_forms.specs.declared.line.Line.{Line}
-use Rattle.xrf_forms.specs.declared.line.Line.TheVariants.{Applid, Takeovr, Adi, Pdi, Log, Ring, File, Pace, Ticks, Images, Level, Xrfsoff, Record, Clt, Work, Plan, Choices, Once, Times, End}
-use Rattle.xrf_forms.specs.declared.reason.Reason.{Reason}
-use Rattle.xrf_forms.specs.declared.reason.Reason.TheVariants.{PlanOrder, RrnRange}
-use Rattle.xrf_forms.proofs.ApartLaws.{line-again, settings-apart, choices-apart}
-use Rattle.xrf_forms.proofs.FoundLaws.{setting_found, choosing_found}
+use Rattle.xrf_grammar.specs.declared.line.Line.{Line}
+use Rattle.xrf_grammar.specs.declared.line.Line.TheVariants.{Applid, Takeovr, Adi, Pdi, Log, Ring, File, Pace, Ticks, Images, Level, Xrfsoff, Record, Clt, Work, Plan, Choices, Once, Times, End}
+use Rattle.xrf_grammar.specs.declared.reason.Reason.{Reason}
+use Rattle.xrf_grammar.specs.declared.reason.Reason.TheVariants.{PlanOrder, RrnRange}
+use Rattle.xrf_grammar.proofs.ApartLaws.{line-again, settings-apart, choices-apart}
+use Rattle.xrf_grammar.proofs.FoundLaws.{setting_found, choosing_found}
 use Rattle.xrf_scenario.specs.Lines.{is_skipped, bytes_fault}
 use Rattle.xrf_scenario.specs.Reading.{begun, SaysIn, SaysThen}
 use Rattle.xrf_scenario.specs.Machine.{step}

@@ -7,9 +7,9 @@ use Rattle.xrf_ctl.specs.declared.parts.Level.TheVariants as level
 use Rattle.xrf_text.specs.Text.{words}
 use Rattle.xrf_setup.specs.declared.format.Format.{Format}
 use Rattle.xrf_setup.specs.declared.format.Format.TheVariants.{One, Two}
-use Rattle.xrf_forms.specs.declared.line.Line.{Line}
-use Rattle.xrf_forms.specs.declared.line.Line.TheVariants.{Applid, Takeovr, Adi, Pdi, Log, Ring, File, Pace, Ticks, Images, Level, Xrfsoff}
-use Rattle.xrf_forms.specs.LineText.{IsSetting, line_text}
+use Rattle.xrf_grammar.specs.declared.line.Line.{Line}
+use Rattle.xrf_grammar.specs.declared.line.Line.TheVariants.{Applid, Takeovr, Adi, Pdi, Log, Ring, File, Pace, Ticks, Images, Level, Xrfsoff}
+use Rattle.xrf_grammar.specs.LineText.{IsSetting, line_text}
 use Rattle.xrf_scenario.specs.Built.{is_built, allows}
 use Rattle.xrf_scenario.specs.Reading.{SaysAll}
 use Rattle.xrf_scenario.specs.SettingLines.{level_number, level_lines, setting_lines}

@@ -10,8 +10,8 @@ use Rattle.xrf_setup.specs.declared.format.Format.{Format}
 use Rattle.xrf_setup.specs.declared.format.Format.TheVariants.{One, Two}
 use Rattle.xrf_setup.specs.declared.ranges.TheConstants.{LOG_UNIT}
 use Rattle.xrf_setup.specs.declared.settings.Settings.{Settings}
-use Rattle.xrf_forms.specs.LineText.{IsSetting}
-use Rattle.xrf_forms.specs.Operands.{is_multiple_of}
+use Rattle.xrf_grammar.specs.LineText.{IsSetting}
+use Rattle.xrf_grammar.specs.Operands.{is_multiple_of}
 use Rattle.xrf_scenario.specs.SettingLines.{level_number, level_lines, setting_lines, AreLines, SettingsAreLines}
 use Rattle.xrf_scenario.specs.Settled.{level_named}
 

@@ -6,14 +6,14 @@ use Rattle.std.proofs.lemmas.Bool.{le-leb, le-ltb}
 use Rattle.std.proofs.lemmas.List.{length_push}
 use Rattle.xrf_text.specs.Text.{words, is_blank, is_filled}
 use Rattle.xrf_setup.specs.declared.format.Format.{Format}
-use Rattle.xrf_forms.specs.declared.line.Line.{Line}
-use Rattle.xrf_forms.specs.Grammar.{Spells}
+use Rattle.xrf_grammar.specs.declared.line.Line.{Line}
+use Rattle.xrf_grammar.specs.Grammar.{Spells}
 use Rattle.xrf_setup.specs.Ranges.{IsIn}
-use Rattle.xrf_forms.specs.LineText.{IsSetting, IsChoosing, header_text, line_text}
-use Rattle.xrf_forms.specs.Plain.{IsPlain}
-use Rattle.xrf_forms.specs.Table.{settings_of, choices_table}
-use Rattle.xrf_forms.proofs.FormLaws.{line-found}
-use Rattle.xrf_forms.proofs.LineAgain.{header_plain, setting_plain, setting_again, choosing_plain, choosing_again}
+use Rattle.xrf_grammar.specs.LineText.{IsSetting, IsChoosing, header_text, line_text}
+use Rattle.xrf_grammar.specs.Plain.{IsPlain}
+use Rattle.xrf_grammar.specs.Table.{settings_of, choices_table}
+use Rattle.xrf_grammar.proofs.FormLaws.{line-found}
+use Rattle.xrf_grammar.proofs.LineAgain.{header_plain, setting_plain, setting_again, choosing_plain, choosing_again}
 use Rattle.xrf_scenario.specs.Built.{allows, allows_format}
 use Rattle.xrf_scenario.specs.Canonical.{IsReportLine}
 use Rattle.xrf_scenario.specs.Lines.{begins_with, are_none, is_skipped, is_report, bytes_fault}

@@ -11,11 +11,11 @@ use Rattle.xrf_base.specs.declared.items.Item.TheVariants.{Begin, Put, Get, Comm
 use Rattle.xrf_base.specs.declared.site.Site.TheVariants.{A, B}
 use Rattle.xrf_text.specs.Text.{words}
 use Rattle.xrf_setup.specs.declared.choice.Choice.{Choice}
-use Rattle.xrf_forms.specs.declared.line.Line.TheVariants.{Work, Plan}
-use Rattle.xrf_forms.specs.declared.reason.Reason.TheVariants.{PlanOrder}
+use Rattle.xrf_grammar.specs.declared.line.Line.TheVariants.{Work, Plan}
+use Rattle.xrf_grammar.specs.declared.reason.Reason.TheVariants.{PlanOrder}
 use Rattle.xrf_setup.specs.Items.{IsItemOf}
 use Rattle.xrf_setup.specs.Choices.{is_planned, HasLine}
-use Rattle.xrf_forms.specs.LineText.{line_text}
+use Rattle.xrf_grammar.specs.LineText.{line_text}
 use Rattle.xrf_scenario.specs.Built.{allows}
 use Rattle.xrf_scenario.specs.Canonical.{plan_said}
 use Rattle.xrf_scenario.specs.Reading.{Says, SaysAll}

@@ -4,8 +4,8 @@ use Rattle.std.proofs.lemmas.List.{append-nil}
 use Rattle.xrf_base.specs.declared.items.Item.{Item}
 use Rattle.xrf_base.specs.declared.site.Site.TheVariants.{A, B}
 use Rattle.xrf_clt.specs.Kept.{Kept}
-use Rattle.xrf_forms.specs.LineText.{header_text, line_text}
-use Rattle.xrf_forms.specs.declared.line.Line.TheVariants.{Work}
+use Rattle.xrf_grammar.specs.LineText.{header_text, line_text}
+use Rattle.xrf_grammar.specs.declared.line.Line.TheVariants.{Work}
 use Rattle.xrf_scenario.specs.Canonical.{fed, text_of, records_said, clt_said, plan_said, scenario_lines}
 use Rattle.xrf_setup.specs.Scenario.{Scen}
 use Rattle.xrf_scenario.specs.SettingLines.{setting_lines}

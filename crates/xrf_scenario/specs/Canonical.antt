@@ -4,12 +4,12 @@ use Rattle.std.specs.List.{AllByRecursion}
 use Rattle.xrf_base.specs.declared.items.Item.{Item}
 use Rattle.xrf_base.specs.declared.site.Site.TheVariants.{A, B}
 use Rattle.xrf_clt.specs.Kept.{Kept}
-use Rattle.xrf_forms.specs.LineText.{header_text, line_text}
-use Rattle.xrf_forms.specs.Spelling.{choice_text}
+use Rattle.xrf_grammar.specs.LineText.{header_text, line_text}
+use Rattle.xrf_grammar.specs.Spelling.{choice_text}
 use Rattle.xrf_setup.specs.Choices.{HasLine}
 use Rattle.xrf_setup.specs.declared.choice.Choice.{Choice}
 use Rattle.xrf_setup.specs.declared.ranges.TheConstants.{CHOICES_MOST}
-use Rattle.xrf_forms.specs.declared.line.Line.TheVariants.{Record, Work, Plan, Choices, End}
+use Rattle.xrf_grammar.specs.declared.line.Line.TheVariants.{Record, Work, Plan, Choices, End}
 use Rattle.xrf_scenario.specs.Built.{AreAllowed}
 use Rattle.xrf_scenario.specs.Reading.{Reads}
 use Rattle.xrf_setup.specs.Scenario.{Scen, IsScen}

@@ -1,6 +1,6 @@
 -- What a reading holds, as what is said so far, and what its answers tell of that.
 use Rattle.std.specs.Prelude.{◌≡◌, ℕ, List, Result, Ok, Err}
-use Rattle.xrf_forms.specs.declared.reason.Reason.{Reason}
+use Rattle.xrf_grammar.specs.declared.reason.Reason.{Reason}
 use Rattle.xrf_scenario.specs.Machine.{Fault as BadLine}
 use Rattle.xrf_scenario.specs.Reading.{HasBad, told}
 use Rattle.xrf_scenario.specs.SoFar.{SoFar}

@@ -1,8 +1,8 @@
 -- The lines of a scenario text, and which of them are skipped.
 use Rattle.std.specs.Prelude.{ℕ, Bool, true, false, ◌==◌, ◌&&◌, ◌||◌, not, nat_lt, List, [], ◌∷◌, length, Option, Some, None, if◌then◌else◌}
 use Rattle.std.specs.List.{list_all}
-use Rattle.xrf_forms.specs.declared.reason.Reason.{Reason}
-use Rattle.xrf_forms.specs.declared.reason.Reason.TheVariants.{BadByte, LongLine}
+use Rattle.xrf_grammar.specs.declared.reason.Reason.{Reason}
+use Rattle.xrf_grammar.specs.declared.reason.Reason.TheVariants.{BadByte, LongLine}
 use Rattle.xrf_text.specs.Text.{lines, words}
 use Rattle.xrf_text.specs.Text.{is_printable}
 use Rattle.xrf_setup.specs.declared.ranges.TheConstants.{LINE_MOST}

@@ -1,12 +1,12 @@
 -- Reading as it goes on from what is said so far.
 use Rattle.std.specs.Prelude.{ℕ, ◌+◌, max, Bool, true, false, List, [], ◌∷◌, Some, None, Result, Ok, Err, if◌then◌else◌}
 use Rattle.xrf_text.specs.Text.{words}
-use Rattle.xrf_forms.specs.Reading.{header_of, line_of}
-use Rattle.xrf_forms.specs.Table.{settings_of, choices_table}
+use Rattle.xrf_grammar.specs.Reading.{header_of, line_of}
+use Rattle.xrf_grammar.specs.Table.{settings_of, choices_table}
 use Rattle.xrf_setup.specs.declared.format.Format.{Format}
-use Rattle.xrf_forms.specs.declared.line.Line.{Line}
-use Rattle.xrf_forms.specs.declared.reason.Reason.{Reason}
-use Rattle.xrf_forms.specs.declared.reason.Reason.TheVariants.{AfterEnd, NoEnd, NotBuilt}
+use Rattle.xrf_grammar.specs.declared.line.Line.{Line}
+use Rattle.xrf_grammar.specs.declared.reason.Reason.{Reason}
+use Rattle.xrf_grammar.specs.declared.reason.Reason.TheVariants.{AfterEnd, NoEnd, NotBuilt}
 use Rattle.xrf_scenario.specs.Built.{allows, allows_format}
 use Rattle.xrf_scenario.specs.Lines.{text_lines, is_skipped, is_report, bytes_fault}
 use Rattle.xrf_scenario.specs.Reading.{begun, told}

@@ -1,13 +1,13 @@
 -- Reading a text line by line: what each line adds to what is said, and the first line that may not come.
 use Rattle.std.specs.Prelude.{◌≡◌, ◌⊎◌, ℕ, ◌+◌, max, Bool, true, false, List, [], ◌∷◌, ◌++◌, length, None, IsTrue, Ok}
 use Rattle.xrf_text.specs.Text.{words}
-use Rattle.xrf_forms.specs.Faults.{IsFirst}
-use Rattle.xrf_forms.specs.Grammar.{Spells}
-use Rattle.xrf_forms.specs.Table.{settings_of, choices_table}
+use Rattle.xrf_grammar.specs.Faults.{IsFirst}
+use Rattle.xrf_grammar.specs.Grammar.{Spells}
+use Rattle.xrf_grammar.specs.Table.{settings_of, choices_table}
 use Rattle.xrf_setup.specs.declared.format.Format.{Format}
-use Rattle.xrf_forms.specs.declared.line.Line.{Line}
-use Rattle.xrf_forms.specs.declared.reason.Reason.{Reason}
-use Rattle.xrf_forms.specs.declared.reason.Reason.TheVariants.{NoEnd, NotBuilt}
+use Rattle.xrf_grammar.specs.declared.line.Line.{Line}
+use Rattle.xrf_grammar.specs.declared.reason.Reason.{Reason}
+use Rattle.xrf_grammar.specs.declared.reason.Reason.TheVariants.{NoEnd, NotBuilt}
 use Rattle.xrf_scenario.specs.Built.{allows, allows_format}
 use Rattle.xrf_scenario.specs.Lines.{text_lines, is_skipped, is_report, bytes_fault}
 use Rattle.xrf_scenario.specs.Reasons.{Holds, header_words}

@@ -4,18 +4,18 @@ use Rattle.std.specs.List.{list_all}
 use Rattle.std.specs.Option.{is_some}
 use Rattle.xrf_base.specs.declared.site.Site.TheVariants.{A, B}
 use Rattle.xrf_text.specs.Text.{words}
-use Rattle.xrf_forms.specs.Faults.{IsFaultOf}
-use Rattle.xrf_forms.specs.Grammar.{Spells}
-use Rattle.xrf_forms.specs.LineText.{header_text}
-use Rattle.xrf_forms.specs.Places.{first}
-use Rattle.xrf_forms.specs.Table.{settings_of, choices_table}
-use Rattle.xrf_forms.specs.declared.form.Form.{Form}
+use Rattle.xrf_grammar.specs.Faults.{IsFaultOf}
+use Rattle.xrf_grammar.specs.Grammar.{Spells}
+use Rattle.xrf_grammar.specs.LineText.{header_text}
+use Rattle.xrf_grammar.specs.Places.{first}
+use Rattle.xrf_grammar.specs.Table.{settings_of, choices_table}
+use Rattle.xrf_grammar.specs.declared.form.Form.{Form}
 use Rattle.xrf_setup.specs.declared.format.Format.{Format}
 use Rattle.xrf_setup.specs.declared.ranges.TheConstants.{LINE_MOST}
-use Rattle.xrf_forms.specs.declared.line.Line.{Line}
-use Rattle.xrf_forms.specs.declared.line.Line.TheVariants.{Applid, Takeovr, Adi, Pdi, Log, Ring, File, Pace, Ticks, Images, Level, Xrfsoff, Record, Clt, Work, Plan, Choices, Once, Times}
-use Rattle.xrf_forms.specs.declared.reason.Reason.{Reason}
-use Rattle.xrf_forms.specs.declared.reason.Reason.TheVariants.{BadByte, LongLine, NoHeader, BadFormat, AfterEnd, PlanOrder, Twice, TooMany, RrnRange, NotBuilt}
+use Rattle.xrf_grammar.specs.declared.line.Line.{Line}
+use Rattle.xrf_grammar.specs.declared.line.Line.TheVariants.{Applid, Takeovr, Adi, Pdi, Log, Ring, File, Pace, Ticks, Images, Level, Xrfsoff, Record, Clt, Work, Plan, Choices, Once, Times}
+use Rattle.xrf_grammar.specs.declared.reason.Reason.{Reason}
+use Rattle.xrf_grammar.specs.declared.reason.Reason.TheVariants.{BadByte, LongLine, NoHeader, BadFormat, AfterEnd, PlanOrder, Twice, TooMany, RrnRange, NotBuilt}
 use Rattle.xrf_scenario.specs.Built.{allows, allows_format}
 use Rattle.xrf_scenario.specs.Lines.{is_report}
 use Rattle.xrf_text.specs.Text.{is_printable}

@@ -4,13 +4,13 @@ use Rattle.std.specs.List.{list_all}
 use Rattle.xrf_base.specs.declared.items.Item.{Item}
 use Rattle.xrf_base.specs.declared.site.Site.TheVariants.{A, B}
 use Rattle.xrf_clt.specs.Lines.{words_kept}
-use Rattle.xrf_forms.specs.Places.{behind}
+use Rattle.xrf_grammar.specs.Places.{behind}
 use Rattle.xrf_setup.specs.declared.choice.Choice.{Choice}
 use Rattle.xrf_setup.specs.declared.ranges.TheConstants.{CLT_MOST, ITEMS_MOST, PLAN_MOST, CHOICES_MOST}
-use Rattle.xrf_forms.specs.declared.line.Line.{Line}
-use Rattle.xrf_forms.specs.declared.line.Line.TheVariants.{Applid, Takeovr, Adi, Pdi, Log, Ring, File, Pace, Ticks, Images, Level, Xrfsoff, Record, Clt, Work, Plan, Choices, Once, Times, End}
-use Rattle.xrf_forms.specs.declared.reason.Reason.{Reason}
-use Rattle.xrf_forms.specs.declared.reason.Reason.TheVariants.{PlanOrder, Twice, TooMany, RrnRange}
+use Rattle.xrf_grammar.specs.declared.line.Line.{Line}
+use Rattle.xrf_grammar.specs.declared.line.Line.TheVariants.{Applid, Takeovr, Adi, Pdi, Log, Ring, File, Pace, Ticks, Images, Level, Xrfsoff, Record, Clt, Work, Plan, Choices, Once, Times, End}
+use Rattle.xrf_grammar.specs.declared.reason.Reason.{Reason}
+use Rattle.xrf_grammar.specs.declared.reason.Reason.TheVariants.{PlanOrder, Twice, TooMany, RrnRange}
 use Rattle.xrf_scenario.specs.SoFar.{SoFar, file_said}
 use Rattle.xrf_scenario.specs.declared.given.Given.{Given}
 use Rattle.xrf_scenario.specs.declared.given.Part.TheVariants.{Making, Whole}

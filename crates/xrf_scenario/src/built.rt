@@ -2,7 +2,7 @@
 
 ghost use Rattle.std.specs.Prelude.{◌≡◌, ℕ, List};
 ghost use Rattle.xrf_setup.specs.Items.{HasItem};
-ghost use Rattle.xrf_forms.specs.declared.line.Line.TheVariants.{Work};
+ghost use Rattle.xrf_grammar.specs.declared.line.Line.TheVariants.{Work};
 ghost use Rattle.xrf_scenario.specs.Built.{allows_format, allows, is_built, is_built_choice};
 ghost use Rattle.xrf_scenario.specs.Held.{said};
 ghost use Rattle.xrf_scenario.specs.Said.{IsSaid, IsLineSaid};
@@ -10,7 +10,7 @@ ghost use Rattle.xrf_scenario.specs.Said.{IsSaid, IsLineSaid};
 use crate::reading::Reading;
 use crate::work::{goes_on, put_count, puts_in};
 use xrf_base::{Item, Site};
-use xrf_forms::Line;
+use xrf_grammar::Line;
 use xrf_setup::{Choice, Format};
 
 /// Which lines a text may have.

@@ -3,10 +3,10 @@
 ghost use Rattle.std.specs.Prelude.{◌≡◌, ◌++◌, ◌∷◌, [], ℕ, OnOk, IfOk, map, codes};
 ghost use Rattle.xrf_base.specs.declared.items.Item.{Item};
 ghost use Rattle.xrf_clt.specs.Kept.{Kept};
-ghost use Rattle.xrf_forms.specs.LineText.{header_text, line_text};
-ghost use Rattle.xrf_forms.specs.Spelling.{choice_text};
+ghost use Rattle.xrf_grammar.specs.LineText.{header_text, line_text};
+ghost use Rattle.xrf_grammar.specs.Spelling.{choice_text};
 ghost use Rattle.xrf_setup.specs.declared.choice.Choice.{Choice};
-ghost use Rattle.xrf_forms.specs.declared.line.Line.TheVariants.{Work, Plan};
+ghost use Rattle.xrf_grammar.specs.declared.line.Line.TheVariants.{Work, Plan};
 ghost use Rattle.xrf_scenario.specs.Canonical.{fed, text_of, records_said, clt_said, plan_said, scenario_lines, choice_lines, canon, ReadAgain};
 ghost use Rattle.xrf_setup.specs.Scenario.{IsScen};
 ghost use Rattle.xrf_scenario.specs.SettingLines.{setting_lines, level_lines, SettingsAreLines};
@@ -16,9 +16,9 @@ use crate::level::level_number;
 use std::alloc::{AllocError, Global};
 use xrf_base::{Item, Site, Tick, Value};
 use xrf_clt::Clt;
-use xrf_forms::writing::Piece::{Number, Text};
-use xrf_forms::writing::put;
-use xrf_forms::{Line, put_choice, put_header, put_line};
+use xrf_grammar::writing::Piece::{Number, Text};
+use xrf_grammar::writing::put;
+use xrf_grammar::{Line, put_choice, put_header, put_line};
 use xrf_setup::{Choice, Format, Scenario, Settings};
 
 fn put_feed(out: &mut Vec<u8>) -> Result<(), AllocError>

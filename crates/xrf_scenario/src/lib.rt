@@ -23,7 +23,7 @@ pub use canonical::{put_canonical, read_again, settings_are_lines, write};
 pub use numbered::Numbered;
 pub use read_bad::ReadBad;
 pub use text::{one_reading, read, read_forms};
-pub use xrf_forms::Reason;
+pub use xrf_grammar::Reason;
 pub use xrf_setup::{Choice, Format, Landing, Scenario, Settings, TornBytes};
 
 #[cfg(test)]

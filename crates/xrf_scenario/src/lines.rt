@@ -4,7 +4,7 @@ ghost use Rattle.std.specs.Prelude.{◌≡◌, ◌+◌, ◌<◌, ◌≤◌, ◌�
 ghost use Rattle.xrf_text.specs.Text.{words};
 ghost use Rattle.xrf_scenario.specs.Lines.{text_lines, without_return, begins_with, are_none, is_skipped, is_report, bytes_fault};
 
-use xrf_forms::Reason;
+use xrf_grammar::Reason;
 use xrf_setup::ranges::LINE_MOST;
 use xrf_text::{first_line_feed, is_printable, split_word};
 

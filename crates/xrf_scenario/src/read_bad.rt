@@ -2,7 +2,7 @@
 
 use std::alloc::AllocError;
 use thiserror::Error;
-use xrf_forms::Reason;
+use xrf_grammar::Reason;
 
 /// Why a text is not read.
 #[derive(Debug, Drop, Error)]

@@ -5,12 +5,12 @@ ghost use Rattle.xrf_scenario.specs.SoFar.{SoFar};
 ghost use Rattle.xrf_scenario.specs.Taking.{once, take_setting};
 ghost use Rattle.std.specs.Prelude.{Option, Some};
 ghost use Rattle.xrf_scenario.specs.declared.given.Given.{Given};
-ghost use Rattle.xrf_forms.specs.declared.line.Line.TheVariants.{Applid, Level};
+ghost use Rattle.xrf_grammar.specs.declared.line.Line.TheVariants.{Applid, Level};
 
 use crate::reading::Reading;
 use crate::stop::Stop;
 use xrf_base::{Name8, Site};
-use xrf_forms::{Line, Reason};
+use xrf_grammar::{Line, Reason};
 
 fn once<T: Copy>(slot: &mut Option<T>, value: T) -> Result<(), Stop>
     ensures { (so : SoFar) (put : Option T → Given) → Tells result (record so { given = put slot.new }) (once slot.old so (put (Some value))) }

@@ -1,8 +1,8 @@
 //! One line of a text, in the part of the text that it is of.
 
 ghost use Rattle.std.specs.Prelude.{◌≡◌, None, Ok};
-ghost use Rattle.xrf_forms.specs.Reading.{header_of, line_of};
-ghost use Rattle.xrf_forms.specs.Table.{settings_of, choices_table};
+ghost use Rattle.xrf_grammar.specs.Reading.{header_of, line_of};
+ghost use Rattle.xrf_grammar.specs.Table.{settings_of, choices_table};
 ghost use Rattle.xrf_scenario.specs.Held.{said, Tells};
 ghost use Rattle.xrf_scenario.specs.Lines.{bytes_fault};
 ghost use Rattle.xrf_scenario.specs.Machine.{take_header, take_line, take_words, step};
@@ -16,7 +16,7 @@ use crate::lines::{bytes_fault, is_report, is_skipped};
 use crate::reading::Reading;
 use crate::stop::Stop;
 use std::alloc::Global;
-use xrf_forms::{Line, Reason, read_choice, read_header, read_setting};
+use xrf_grammar::{Line, Reason, read_choice, read_header, read_setting};
 
 /// Whether END has come.
 pub fn is_whole(part: Part) -> bool

@@ -1,7 +1,7 @@
 //! Why reading stops.
 
 use std::alloc::{AllocError, AllocFailed};
-use xrf_forms::Reason;
+use xrf_grammar::Reason;
 
 /// Why reading stops at a line.
 #[derive(Drop)]

@@ -23,7 +23,7 @@ use crate::stepping::is_whole;
 use crate::stop::Stop;
 use std::alloc::{AllocError, Global};
 use xrf_base::Value;
-use xrf_forms::Reason;
+use xrf_grammar::Reason;
 use xrf_setup::Scenario;
 use xrf_setup::ranges::{FILE_MOST, INPUT_MOST};
 

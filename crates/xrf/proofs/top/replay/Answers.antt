@@ -3,7 +3,7 @@ use Rattle.xrf_edge.specs.Ends.{came}
 use Rattle.xrf.specs.Made.{IsMade}
 use Rattle.xrf.specs.Answer.{End}
 use Rattle.xrf.specs.declared.refusal.Reason.TheVariants.{Grammar}
-use Rattle.xrf_forms.specs.declared.reason.Reason.TheVariants.{TooLarge}
+use Rattle.xrf_grammar.specs.declared.reason.Reason.TheVariants.{TooLarge}
 use Rattle.xrf.proofs.AnswerLaws.{replayed, refused, too_large, if-some}
 use Rattle.xrf.proofs.top.replay.Goals as goal
 

@@ -1,5 +1,5 @@
 use Rattle.std.proofs.Common.{◌≡◌, ◌++◌, map, take}
-use Rattle.xrf_forms.specs.LineText.{line_text}
+use Rattle.xrf_grammar.specs.LineText.{line_text}
 use Rattle.xrf_scenario.specs.Canonical.{text_of}
 use Rattle.xrf_scenario.proofs.canonical.put_lines.Given as goal
 

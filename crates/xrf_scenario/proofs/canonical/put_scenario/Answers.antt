@@ -3,10 +3,10 @@ use Rattle.std.proofs.lemmas.Result.{on_ok_weaker}
 use Rattle.xrf_base.specs.declared.items.Item.{Item}
 use Rattle.xrf_base.specs.declared.site.Site.TheVariants.{A, B}
 use Rattle.xrf_clt.specs.Kept.{Kept}
-use Rattle.xrf_forms.specs.LineText.{header_text, line_text}
+use Rattle.xrf_grammar.specs.LineText.{header_text, line_text}
 use Rattle.xrf_setup.specs.declared.choice.Choice.{Choice}
 use Rattle.xrf_setup.specs.declared.format.Format.{Format}
-use Rattle.xrf_forms.specs.declared.line.Line.TheVariants.{Work}
+use Rattle.xrf_grammar.specs.declared.line.Line.TheVariants.{Work}
 use Rattle.xrf_scenario.specs.Canonical.{text_of, records_said, clt_said, plan_said}
 use Rattle.xrf_scenario.specs.SettingLines.{setting_lines}
 use Rattle.xrf_setup.specs.declared.settings.Settings.{Settings}

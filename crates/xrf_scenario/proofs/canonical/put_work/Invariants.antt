@@ -1,7 +1,7 @@
 use Rattle.std.proofs.Common.{◌≡◌, ◌++◌, map, take}
 use Rattle.xrf_base.specs.declared.items.Item.{Item}
-use Rattle.xrf_forms.specs.LineText.{line_text}
-use Rattle.xrf_forms.specs.declared.line.Line.TheVariants.{Work}
+use Rattle.xrf_grammar.specs.LineText.{line_text}
+use Rattle.xrf_grammar.specs.declared.line.Line.TheVariants.{Work}
 use Rattle.xrf_scenario.specs.Canonical.{text_of}
 use Rattle.xrf_scenario.proofs.canonical.put_work.Given as goal
 

@@ -1,5 +1,0 @@
-use Rattle.std.proofs.Common.{length}
-use Rattle.xrf_forms.proofs.fitting.+agreement.Given as goal
-
-abbrev pub decreases-agreement : goal.decreases-agreement
-decreases-agreement l = length l.parts.now

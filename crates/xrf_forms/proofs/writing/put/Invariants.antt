@@ -1,7 +1,0 @@
-use Rattle.std.proofs.Common.{◌≡◌, ◌++◌, take}
-use Rattle.xrf_forms.specs.Spelling.{pieces_text}
-use Rattle.xrf_forms.proofs.writing.put.Given as goal
-
--- the pieces so far stand behind what was there
-abbrev pub invariant-loop-piece : goal.invariant-loop-piece
-invariant-loop-piece l = l.out.items ≡ l.fn.out.items ++ pieces_text (take l.piece-index l.pieces)

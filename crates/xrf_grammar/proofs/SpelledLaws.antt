@@ -1,0 +1,52 @@
+-- What some words spell by forms of a table is what they say by the table.
+use Rattle.std.proofs.Common.{◌≡◌, ◌⊎◌, inl, inr, ℕ, Bool, true, false, List, [], ◌∷◌, Option, Some, None, Result, Ok, Err, IfSome, refl, sym, subst}
+use Rattle.xrf_grammar.specs.declared.reason.Reason.{Reason}
+use Rattle.xrf_grammar.specs.declared.form.Form.{Form}
+use Rattle.xrf_setup.specs.declared.format.Format.{Format}
+use Rattle.xrf_grammar.specs.declared.form.Part.{Part}
+use Rattle.xrf_grammar.specs.declared.line.Line.{Line}
+use Rattle.xrf_grammar.specs.Fitting.{takes_all}
+use Rattle.xrf_grammar.specs.Grammar.{Unless, IsOfPart, AreOfForm, IsAmong, AreAmong, Spells}
+use Rattle.xrf_grammar.specs.Reading.{line_of}
+use Rattle.xrf_grammar.specs.Saying.{said}
+use Rattle.xrf_grammar.specs.Table.{parts_of, settings_of, choices_table}
+use Rattle.xrf_grammar.proofs.ApartLaws.{line-again, settings-apart, choices-apart}
+
+-- a word of a part, and words of the parts behind it
+pub of_both : (part : Part) (parts : List Part) (word : List ℕ) (ws : List (List ℕ)) → IsOfPart part word → AreOfForm parts ws → AreOfForm (part ∷ parts) (word ∷ ws)
+of_both part parts word ws here later = by (takes_all part parts)
+  where
+    by : (b : Bool) → Unless b (IsOfPart part word × AreOfForm parts ws)
+    by true = tt
+    by false = (here, later)
+
+-- a part that takes all words that are left
+pub of_rest : (part : Part) (parts : List Part) (word : List ℕ) (ws : List (List ℕ)) → takes_all part parts ≡ true → AreOfForm (part ∷ parts) (word ∷ ws)
+of_rest part parts word ws all = subst (λ (b : Bool). Unless b (IsOfPart part word × AreOfForm parts ws)) (sym all) tt
+
+-- the words are of the first form
+pub spelled_here : (form : Form) (more : List Form) (ws : List (List ℕ)) (r : Option Line) → AreOfForm (parts_of form) ws → r ≡ said form ws
+    → IfSome r (λ says. Spells (form ∷ more) ws says)
+spelled_here form more ws None fit e = tt
+spelled_here form more ws (Some says) fit e = record { form = form; among = inl refl; fit = fit; line = sym e }
+
+-- they are of a later form
+pub spelled_later : (form : Form) (more : List Form) (ws : List (List ℕ)) (r : Option Line) → IfSome r (λ says. Spells more ws says)
+    → IfSome r (λ says. Spells (form ∷ more) ws says)
+spelled_later form more ws None s = tt
+spelled_later form more ws (Some says) s = record { form = s.form; among = inr s.among; fit = s.fit; line = s.line }
+
+by-table : (forms all : List Form) (ws : List (List ℕ)) (says : Line) → AreAmong forms all → Spells forms ws says → Spells all ws says
+by-table forms all ws says among s = record { form = s.form; among = among s.form s.among; fit = s.fit; line = s.line }
+
+-- a line before the choices
+pub setting_read : (format : Format) (forms : List Form) (ws : List (List ℕ)) (r : Option Line) → AreAmong forms (settings_of format) → IfSome r (λ says. Spells forms ws says)
+    → IfSome r (λ says. Ok says ≡ line_of (settings_of format) ws)
+setting_read format forms ws None among s = tt
+setting_read format forms ws (Some says) among s = sym (line-again (settings_of format) ws says (settings-apart format) (by-table forms (settings_of format) ws says among s))
+
+-- a line behind CHOICES
+pub choice_read : (forms : List Form) (ws : List (List ℕ)) (r : Option Line) → AreAmong forms choices_table → IfSome r (λ says. Spells forms ws says)
+    → IfSome r (λ says. Ok says ≡ line_of choices_table ws)
+choice_read forms ws None among s = tt
+choice_read forms ws (Some says) among s = sym (line-again choices_table ws says choices-apart (by-table forms choices_table ws says among s))

@@ -1,0 +1,101 @@
+//! The line that some words spell, by the forms that begin with the first of them.
+
+ghost use Rattle.std.specs.Prelude.{◌≡◌, IfSome, IsTrue, Ok};
+ghost use Rattle.xrf_text.specs.Text.{words, texts};
+ghost use Rattle.xrf_grammar.specs.Fitting.{takes_all};
+ghost use Rattle.xrf_grammar.specs.Grammar.{IsOfPart, AreOfForm, Spells};
+ghost use Rattle.xrf_grammar.specs.Reading.{line_of};
+ghost use Rattle.xrf_grammar.specs.Table.{settings_of, choices_table};
+
+use crate::beginning::{choices_beginning, settings_beginning};
+use crate::fitting::fault_of_keyword;
+use crate::form::{Form, Part};
+use crate::line::Line;
+use crate::operand::fault_of_operand;
+use crate::saying::say;
+use xrf_setup::Format;
+use xrf_text::LineWords;
+
+/// Whether a word is of a part.
+#[tactic(auto, using(crate::proofs::FormLaws::part_found))]
+fn is_of_part(part: Part, word: &[u8]) -> bool
+    ensures { IsTrue result → IsOfPart part word.now }
+{
+    if fault_of_keyword(part, word).is_some() {
+        return false;
+    }
+    fault_of_operand(part, word).is_none()
+}
+
+/// Whether a part takes all words that are left.
+fn takes_all(part: Part, later: &[Part]) -> bool
+    ensures { result ≡ takes_all part later.now }
+{
+    match (part, later) {
+        (Part::Words, []) => true,
+        _ => false,
+    }
+}
+
+/// Whether some words are of a form.
+#[tactic(auto, using(crate::proofs::SpelledLaws::of_both, crate::proofs::SpelledLaws::of_rest))]
+fn are_of_form(parts: &[Part], line_words: &[&[u8]]) -> bool
+    ensures { IsTrue result → AreOfForm parts.now (texts line_words.now) }
+{
+    let [part, later @ ..] = parts else {
+        return line_words.is_empty();
+    };
+    let [word, rest @ ..] = line_words else {
+        return false;
+    };
+    if takes_all(*part, later) {
+        return true;
+    }
+    if !is_of_part(*part, word) {
+        return false;
+    }
+    are_of_form(later, rest)
+}
+
+/// The line that the words of a text spell by the first of these forms that they are of.
+#[tactic(auto, using(crate::proofs::SpelledLaws::spelled_here, crate::proofs::SpelledLaws::spelled_later))]
+fn spelled(forms: &[Form], line_words: &[&[u8]], line: &[u8]) -> Option<Line>
+    requires { texts line_words.now ≡ words line.now }
+    ensures { IfSome result (λ says. Spells forms.now (words line.now) says) }
+{
+    let [form, more @ ..] = forms else {
+        return None;
+    };
+    if are_of_form(form.parts(), line_words) {
+        return say(*form, line);
+    }
+    spelled(more, line_words, line)
+}
+
+/// The first word of some words.
+fn first<'a>(words: &[&'a [u8]]) -> &'a [u8] {
+    match words {
+        [word, ..] => word,
+        [] => &[],
+    }
+}
+
+/// What a line before the choices says, where it is found by its first word.
+#[tactic(auto, using(crate::proofs::SpelledLaws::setting_read))]
+pub(crate) fn setting_by_first_word(format: Format, line: &[u8]) -> Option<Line>
+    ensures { IfSome result (λ says. Ok says ≡ line_of (settings_of format) (words line.now)) }
+{
+    let words = LineWords::split(line)?;
+    let forms = settings_beginning(format, first(words.as_slice()));
+    spelled(forms, words.as_slice(), line)
+}
+
+/// What a line behind the line CHOICES says, where it is found by its first word.
+#[tactic(auto, using(crate::proofs::SpelledLaws::choice_read))]
+pub(crate) fn choice_by_first_word(line: &[u8]) -> Option<Line>
+    ensures { IfSome result (λ says. Ok says ≡ line_of choices_table (words line.now)) }
+{
+    let words = LineWords::split(line)?;
+    let forms = choices_beginning(first(words.as_slice()));
+    spelled(forms, words.as_slice(), line)
+}

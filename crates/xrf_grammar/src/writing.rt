@@ -1,0 +1,249 @@
+//! How a choice and a work item are written: one spelling of each.
+
+ghost use Rattle.std.specs.Prelude.{◌≡◌, ◌<◌, ◌++◌, OnOk, codes};
+ghost use Rattle.std.specs.Fmt.{decimal};
+ghost use Rattle.xrf_cebt.specs.Command.{command_text};
+ghost use Rattle.xrf_grammar.specs.Spelling.{hex_digit, hex_text, piece_text, pieces_text, site_text, site_word, answer_word, landed_text, go_text, choice_text, item_text};
+
+use Piece::{Hex, Number, Text};
+use std::alloc::{AllocError, Global};
+use xrf_base::{Item, Site};
+use xrf_cebt::Cebt;
+use xrf_exit::ExitAnswer;
+use xrf_setup::{Choice, Landing};
+
+/// A piece of a text.
+#[derive(Clone, Copy)]
+pub enum Piece<'a> {
+    /// Bytes as they are.
+    Text(&'a [u8]),
+    /// A number in decimal digits.
+    Number(u64),
+    /// Bytes in hex, in lower case.
+    Hex(&'a [u8]),
+}
+
+pub(crate) fn put_text(out: &mut Vec<u8>, text: &[u8]) -> Result<(), AllocError>
+    ensures { OnOk result (out.new.items ≡ out.old.items ++ text.now) }
+{
+    out.extend_from_slice(text)?;
+    Ok(())
+}
+
+fn put_number(alloc: Global, out: &mut Vec<u8>, number: u64) -> Result<(), AllocError>
+    ensures { OnOk result (out.new.items ≡ out.old.items ++ decimal number) }
+{
+    let digits = number.to_string(alloc)?;
+    put_text(out, digits.as_bytes())
+}
+
+// the digit of a number below 16
+fn digit(number: u8) -> u8
+    requires { number < 16 }
+    ensures { result ≡ hex_digit number }
+{
+    if number < 10 {
+        b'0' + number
+    } else {
+        b'a' + (number - 10)
+    }
+}
+
+fn put_hex(out: &mut Vec<u8>, bytes: &[u8]) -> Result<(), AllocError>
+    ensures { OnOk result (out.new.items ≡ out.old.items ++ hex_text bytes.now) }
+{
+    for byte in bytes {
+        put_text(out, &[digit(*byte / 16), digit(*byte % 16)])?;
+    }
+    Ok(())
+}
+
+fn put_piece(alloc: Global, out: &mut Vec<u8>, piece: &Piece) -> Result<(), AllocError>
+    ensures { OnOk result (out.new.items ≡ out.old.items ++ piece_text piece.now) }
+{
+    match piece {
+        Piece::Text(text) => put_text(out, text),
+        Piece::Number(number) => put_number(alloc, out, *number),
+        Piece::Hex(bytes) => put_hex(out, bytes),
+    }
+}
+
+/// Appends the pieces to a text.
+pub fn put(alloc: Global, out: &mut Vec<u8>, pieces: &[Piece]) -> Result<(), AllocError>
+    ensures { OnOk result (out.new.items ≡ out.old.items ++ pieces_text pieces.now) }
+{
+    for piece in pieces {
+        put_piece(alloc, out, piece)?;
+    }
+    Ok(())
+}
+
+/// The word of a site.
+pub fn site_word(site: Site) -> &'static [u8]
+    ensures { result.now ≡ site_word site }
+{
+    match site {
+        Site::A => b"A",
+        Site::B => b"B",
+    }
+}
+
+fn answer_word(answer: ExitAnswer) -> &'static [u8]
+    ensures { result.now ≡ answer_word answer }
+{
+    match answer {
+        ExitAnswer::Abend => b"ABEND",
+        ExitAnswer::Keep => b"KEEP",
+        ExitAnswer::Drop => b"DROP",
+    }
+}
+
+// a word, a site and what stands behind it
+pub(crate) fn put_of_site<'a>(
+    alloc: Global,
+    out: &mut Vec<u8>,
+    word: &'a [u8],
+    site: Site,
+    behind: &'a [u8],
+) -> Result<(), AllocError>
+    ensures { OnOk result (out.new.items ≡ out.old.items ++ site_text word.now site behind.now) }
+{
+    put(
+        alloc,
+        out,
+        &[Text(word), Text(b" "), Text(site_word(site)), Text(behind)],
+    )
+}
+
+fn put_landed(
+    alloc: Global,
+    out: &mut Vec<u8>,
+    word: &[u8],
+    site: Site,
+    landing: &Landing,
+) -> Result<(), AllocError>
+    ensures { OnOk result (out.new.items ≡ out.old.items ++ landed_text word.now site landing.now) }
+{
+    match landing {
+        Landing::Nothing => put_of_site(alloc, out, word, site, b" NONE"),
+        Landing::All => put_of_site(alloc, out, word, site, b" ALL"),
+        Landing::Torn(torn) => {
+            put_of_site(alloc, out, word, site, b" TORN ")?;
+            put_hex(out, torn.bytes())
+        }
+    }
+}
+
+fn put_command(
+    alloc: Global,
+    out: &mut Vec<u8>,
+    site: Site,
+    command: Cebt,
+) -> Result<(), AllocError>
+    ensures { OnOk result (out.new.items ≡ out.old.items ++ site_text (codes "CEBT") site (codes " " ++ command_text command)) }
+{
+    put_of_site(alloc, out, b"CEBT", site, b" ")?;
+    put_text(out, command.text())
+}
+
+fn put_exit(
+    alloc: Global,
+    out: &mut Vec<u8>,
+    site: Site,
+    answer: ExitAnswer,
+) -> Result<(), AllocError>
+    ensures { OnOk result (out.new.items ≡ out.old.items ++ site_text (codes "EXIT") site (codes " " ++ answer_word answer)) }
+{
+    put_of_site(alloc, out, b"EXIT", site, b" ")?;
+    put_text(out, answer_word(answer))
+}
+
+fn put_number_choice(alloc: Global, out: &mut Vec<u8>, number: u32) -> Result<(), AllocError>
+    ensures { OnOk result (out.new.items ≡ out.old.items ++ codes "CONFIRM " ++ decimal number) }
+{
+    put(alloc, out, &[Text(b"CONFIRM "), Number(number as u64)])
+}
+
+fn put_reply(alloc: Global, out: &mut Vec<u8>, site: Site, go: bool) -> Result<(), AllocError>
+    ensures { OnOk result (out.new.items ≡ out.old.items ++ go_text site go) }
+{
+    if go {
+        put_of_site(alloc, out, b"REPLY", site, b" GO")
+    } else {
+        put_of_site(alloc, out, b"REPLY", site, b" IGNORE")
+    }
+}
+
+/// Appends a choice as its line spells it, without a count and without a line feed.
+pub fn put_choice(alloc: Global, out: &mut Vec<u8>, choice: &Choice) -> Result<(), AllocError>
+    ensures { OnOk result (out.new.items ≡ out.old.items ++ choice_text choice.now) }
+{
+    match choice {
+        Choice::Tick => put_text(out, b"TICK"),
+        Choice::Step(site) => put_of_site(alloc, out, b"STEP", *site, b""),
+        Choice::Lose(site) => put_of_site(alloc, out, b"LOSE", *site, b""),
+        Choice::Stop(site, landing) => put_landed(alloc, out, b"STOP", *site, landing),
+        Choice::Fail(site, landing) => put_landed(alloc, out, b"FAIL", *site, landing),
+        Choice::StartActive(site) => put_of_site(alloc, out, b"START", *site, b" ACTIVE"),
+        Choice::StartStandby(site) => put_of_site(alloc, out, b"START", *site, b" STANDBY"),
+        Choice::Abend(site) => put_of_site(alloc, out, b"ABEND", *site, b""),
+        Choice::Confirm(number) => put_number_choice(alloc, out, *number),
+        Choice::Reply(site, go) => put_reply(alloc, out, *site, *go),
+        Choice::Cebt(site, command) => put_command(alloc, out, *site, *command),
+        Choice::Exit(site, answer) => put_exit(alloc, out, *site, *answer),
+    }
+}
+
+pub(crate) fn put_named<'a>(
+    alloc: Global,
+    out: &mut Vec<u8>,
+    word: &'a [u8],
+    name: &'a [u8],
+) -> Result<(), AllocError>
+    ensures { OnOk result (out.new.items ≡ out.old.items ++ word.now ++ name.now) }
+{
+    put(alloc, out, &[Text(word), Text(name)])
+}
+
+fn put_numbered<'a>(
+    alloc: Global,
+    out: &mut Vec<u8>,
+    word: &'a [u8],
+    name: &'a [u8],
+    number: u16,
+) -> Result<(), AllocError>
+    ensures { OnOk result (out.new.items ≡ out.old.items ++ word.now ++ name.now ++ codes " " ++ decimal number) }
+{
+    put(
+        alloc,
+        out,
+        &[Text(word), Text(name), Text(b" "), Number(number as u64)],
+    )
+}
+
+/// Appends a work item as its line spells it, from the word of the item on.
+pub fn put_item(alloc: Global, out: &mut Vec<u8>, item: &Item) -> Result<(), AllocError>
+    ensures { OnOk result (out.new.items ≡ out.old.items ++ item_text item.now) }
+{
+    match item {
+        Item::Begin(unit) => put_named(alloc, out, b"BEGIN ", unit.text()),
+        Item::Put(unit, number, value) => {
+            put_numbered(alloc, out, b"PUT ", unit.text(), *number)?;
+            put_named(alloc, out, b" ", value.text())
+        }
+        Item::Get(unit, number) => put_numbered(alloc, out, b"GET ", unit.text(), *number),
+        Item::Commit(unit) => put_named(alloc, out, b"COMMIT ", unit.text()),
+        Item::Roll(unit) => put_named(alloc, out, b"ROLL ", unit.text()),
+        Item::Logon(terminal, class) => {
+            put_numbered(alloc, out, b"LOGON ", terminal.text(), *class as u16)
+        }
+        Item::Logoff(terminal) => put_named(alloc, out, b"LOGOFF ", terminal.text()),
+        Item::Shutdown => put_text(out, b"CEMT SHUTDOWN"),
+        Item::ShutdownTakeover => put_text(out, b"CEMT SHUTDOWN TAKEOVER"),
+        Item::Signon(terminal, user) => {
+            put_named(alloc, out, b"SIGNON ", terminal.text())?;
+            put_named(alloc, out, b" ", user.text())
+        }
+        Item::Signoff(terminal) => put_named(alloc, out, b"SIGNOFF ", terminal.text()),
+    }
+}

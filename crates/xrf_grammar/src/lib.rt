@@ -2,11 +2,13 @@
 #![tactic(auto)]
 
 mod beginning;
+mod choice_parts;
 mod fitting;
 pub mod form;
 mod hex;
 pub mod keyword;
 pub mod line;
+mod line_parts;
 pub mod line_writing;
 mod number;
 mod operand;
@@ -16,6 +18,7 @@ mod saying;
 mod spelled;
 mod table;
 mod word;
+mod work_parts;
 pub mod writing;
 
 pub use form::Form;

@@ -1,5 +1,5 @@
 -- Part by part: each computes to nothing, or to equations whose sides are the same.
-use Rattle.std.proofs.Common.{refl, take, drop}
+use Rattle.std.proofs.Common.{refl, take, drop, rules}
 use Rattle.xrf_base.specs.declared.site.Site.TheVariants as site
 use Rattle.xrf_ctl.specs.declared.parts.OwnerState.TheVariants as state
 use Rattle.xrf_trace.specs.OneUpdater.{UpdatesAsOwner, CountsByGrants, GrantsNext, GrantsPlace}
@@ -11,7 +11,9 @@ use Rattle.xrf_trace.specs.ThroughByProof.{ThroughByProof}
 use Rattle.xrf_trace.specs.FormatByLevel.{MeetsFormat}
 use Rattle.xrf_trace.specs.Each.{Each}
 use Rattle.xrf_examples.specs.Making.{owner_of}
-use Rattle.xrf_long_runs.specs.ATornKeypointBodyThatSpellsANewerKeypoint.{scenario, trace}
+use Rattle.xrf_laws.proofs.EveryRun.{of_choices}
+use Rattle.xrf_setup.specs.Scenario.{IsScen}
+use Rattle.xrf_long_runs.specs.ATornKeypointBodyThatSpellsANewerKeypoint.{scenario, choices, trace}
 use Rattle.xrf_long_runs.proofs.Formats.{AllWriteOne, formats_of_one}
 use Rattle.xrf_long_runs.proofs.Updates.{AllBy, updates_over}
 use Rattle.xrf_long_runs.proofs.Silent.{AllBringNone, silent_throughout}
@@ -77,3 +79,9 @@ returns-clause-safe c = record {
   silent_once_seen = silent_throughout scenario trace none_brought;
   format_by_level = record { meets = meets_format; format = formats_of_one scenario refl refl trace one_written };
 }
+
+in_ranges : IsScen scenario
+in_ranges = search rules
+
+pub returns-clause-keeps : goal.returns-clause-keeps
+returns-clause-keeps c = (of_choices scenario choices trace in_ranges refl (search rules)).1

@@ -64,17 +64,20 @@ pub record ShutAt (p : Settings) (h later : List Event) (unit : UnitId) : Type 0
   pub restarted : is_restarted later ≡ true
   pub shut : IsShut (ledger p later) unit
 
+-- the end of a unit, in the log and in the history after the act
 pub record Ends (p : Settings) (log : List LogRec) (h later : List Event) (unit_now : List ℕ → Option UnitId) (item : Item) : Type 0 where
   pub says : EndsAs log unit_now item
   pub shut : OfEnd unit_now item (ShutAt p h later)
 
+-- where the act answers Done, its item has ended its unit so
 abbrev pub Means : Scen → List Entry → Site → List Event → Act → Type 0
 Means s t x h a =
     Where (answers_done (answer_by s t x a))
     (OfItem (site_after s t x a land.Full).item (Ends (settings s x) (log_after a land.Full (log t)) h (handed s t x (now t) h a ∷ h) (open_unit s t x)))
 
 -- the unit of a name is of the job's incarnation, and one of those that it began
-open-own : (s : Scen) (t : List Entry) (x : Site) (h : List Event) (w : Want) (unit : UnitId) → AtWork s t x h w → IsOpenUnit unit (ledger (settings s x) h).units
+open-own : (s : Scen) (t : List Entry) (x : Site) (h : List Event) (w : Want) (unit : UnitId) → AtWork s t x h w
+    → IsOpenUnit unit (ledger (settings s x) h).units
     → unit.inc ≡ number h
 open-own s t x h w unit at here = (units-of (settings s x) h unit here).0 ∙ at.serves.1
 
@@ -88,6 +91,7 @@ is_end (items.Commit name) = true
 is_end (items.Roll name) = true
 is_end _ = false
 
+-- an item that is neither COMMIT nor ROLL ends no unit
 ends-other : (p : Settings) (records : List LogRec) (h later : List Event) (unit_now : List ℕ → Option UnitId) (item : Item) → is_end item ≡ false
     → Ends p records h later unit_now item
 ends-other p records h later unit_now (items.Commit name) e = absurd (cc)
@@ -107,13 +111,15 @@ item-means s t x h b (Some (items.Commit name)) = by (open_unit s t x name) refl
     cold unit e = sym (ap (λ (l : Ledger). is_hot unit l.puts) (item-joined s t x h b)) ∙ e
 
     hot : (unit : UnitId) (c : Bool) → open_unit s t x name ≡ Some unit → is_hot unit (ledger_at s t x).puts ≡ c
-        → Where (answers_done (answer_of_plan (if c then plans.Commit unit (ledger_at s t x).next else plans.Answer Done))) (Ends (settings s x) (log t) h (Given (items.Commit name) ∷ h) (open_unit s t x) (items.Commit name))
+        → Where (answers_done (answer_of_plan (if c then plans.Commit unit (ledger_at s t x).next else plans.Answer Done)))
+        (Ends (settings s x) (log t) h (Given (items.Commit name) ∷ h) (open_unit s t x) (items.Commit name))
     hot unit true is e = tt
     hot unit false is e =
         let here : IsOpenUnit unit (ledger (settings s x) h).units = open-here s t x h want.Item name unit at is in
         record {
           says = subst (StaysCommitted (log t)) (sym is)
-              (where-not (has_put (log t) unit) _ (cold-put unit (log t) (at.ledgers.unended unit here) (sym (ap (is_hot unit) at.ledgers.puts) ∙ cold unit e)));
+              (where-not (has_put (log t) unit) _
+              (cold-put unit (log t) (at.ledgers.unended unit here) (sym (ap (is_hot unit) at.ledgers.puts) ∙ cold unit e)));
           shut = subst (λ (o : Option UnitId). IfSome o (ShutAt (settings s x) h (Given (items.Commit name) ∷ h))) (sym is)
               (record {
                 own = open-own s t x h want.Item unit at here;
@@ -125,7 +131,8 @@ item-means s t x h b (Some (items.Commit name)) = by (open_unit s t x name) refl
         }
 
     by : (q : Option UnitId) → open_unit s t x name ≡ q
-        → Where (answers_done (answer_of_plan (commit_plan (ledger_at s t x) q))) (Ends (settings s x) (log t) h (Given (items.Commit name) ∷ h) (open_unit s t x) (items.Commit name))
+        → Where (answers_done (answer_of_plan (commit_plan (ledger_at s t x) q)))
+        (Ends (settings s x) (log t) h (Given (items.Commit name) ∷ h) (open_unit s t x) (items.Commit name))
     by None is = tt
     by (Some unit) is = hot unit (is_hot unit (ledger_at s t x).puts) is refl
 item-means s t x h b (Some (items.Roll name)) = by (open_unit s t x name) refl
@@ -137,7 +144,8 @@ item-means s t x h b (Some (items.Roll name)) = by (open_unit s t x name) refl
     cold unit e = sym (ap (λ (l : Ledger). is_hot unit l.puts) (item-joined s t x h b)) ∙ e
 
     hot : (unit : UnitId) (c : Bool) → open_unit s t x name ≡ Some unit → is_hot unit (ledger_at s t x).puts ≡ c
-        → Where (answers_done (answer_of_plan (if c then plans.Roll unit (ledger_at s t x).next else plans.Answer Done))) (Ends (settings s x) (log t) h (Given (items.Roll name) ∷ h) (open_unit s t x) (items.Roll name))
+        → Where (answers_done (answer_of_plan (if c then plans.Roll unit (ledger_at s t x).next else plans.Answer Done)))
+        (Ends (settings s x) (log t) h (Given (items.Roll name) ∷ h) (open_unit s t x) (items.Roll name))
     hot unit true is e = tt
     hot unit false is e =
         let here : IsOpenUnit unit (ledger (settings s x) h).units = open-here s t x h want.Item name unit at is in
@@ -154,7 +162,8 @@ item-means s t x h b (Some (items.Roll name)) = by (open_unit s t x name) refl
         }
 
     by : (q : Option UnitId) → open_unit s t x name ≡ q
-        → Where (answers_done (answer_of_plan (roll_plan (ledger_at s t x) q))) (Ends (settings s x) (log t) h (Given (items.Roll name) ∷ h) (open_unit s t x) (items.Roll name))
+        → Where (answers_done (answer_of_plan (roll_plan (ledger_at s t x) q)))
+        (Ends (settings s x) (log t) h (Given (items.Roll name) ∷ h) (open_unit s t x) (items.Roll name))
     by None is = tt
     by (Some unit) is = hot unit (is_hot unit (ledger_at s t x).puts) is refl
 item-means s t x h b (Some item) = where-is _ _ (ends-other (settings s x) (log t) h (Given item ∷ h) (open_unit s t x) item refl)
@@ -173,11 +182,13 @@ get-done fact (plans.Roll u place) slot = tt
 get-done fact (plans.Answer a) slot = tt
 
 -- the write of a PUT ends no unit
-put-means : (s : Scen) (t : List Entry) (x : Site) (h : List Event) (unit : UnitId) (rrn : ℕ) (value : List ℕ) (plan : Plan) → Serves (settings s x) h (site_view s t x)
+put-means : (s : Scen) (t : List Entry) (x : Site) (h : List Event) (unit : UnitId) (rrn : ℕ) (value : List ℕ) (plan : Plan)
+    → Serves (settings s x) h (site_view s t x)
     → Serving (given_last h) (ledger (settings s x) h) plan → IsWrite plan unit rrn value
     → OfItem (item_at_hand s t x) (Ends (settings s x) (log t) h (RecordWritten unit rrn value ∷ h) (open_unit s t x))
 put-means s t x h unit rrn value (plans.Put u k v place) serves serving same =
-    of-now (Ends (settings s x) (log t) h (RecordWritten unit rrn value ∷ h) (open_unit s t x)) (item_at_hand s t x) (items.Put serving.0 k v) (item-at s t x h _ serves serving.1).0
+    of-now (Ends (settings s x) (log t) h (RecordWritten unit rrn value ∷ h) (open_unit s t x)) (item_at_hand s t x) (items.Put serving.0 k v)
+    (item-at s t x h _ serves serving.1).0
     (ends-other (settings s x) (log t) h (RecordWritten unit rrn value ∷ h) (open_unit s t x) (items.Put serving.0 k v) refl)
 put-means s t x h unit rrn value (plans.Get k) serves serving same = absurd same
 put-means s t x h unit rrn value (plans.Commit u place) serves serving same = absurd same
@@ -186,19 +197,25 @@ put-means s t x h unit rrn value (plans.Answer a) serves serving same = absurd s
 
 -- the record that ends a unit
 -- it shuts its unit
-shut-here : (s : Scen) (t : List Entry) (x : Site) (h : List Event) (w : Want) (place : ℕ) (rec : LogRec) (unit : UnitId) → AtWork s t x h w → is_restarted h ≡ true
-    → IsOpenUnit unit (ledger (settings s x) h).units → IsShut (after_record rec (ledger (settings s x) h)) unit → ShutAt (settings s x) h (LogOpened place rec ∷ h) unit
+shut-here : (s : Scen) (t : List Entry) (x : Site) (h : List Event) (w : Want) (place : ℕ) (rec : LogRec) (unit : UnitId) → AtWork s t x h w
+    → is_restarted h ≡ true
+    → IsOpenUnit unit (ledger (settings s x) h).units → IsShut (after_record rec (ledger (settings s x) h)) unit
+    → ShutAt (settings s x) h (LogOpened place rec ∷ h) unit
 shut-here s t x h w place rec unit at working here is =
     record { own = open-own s t x h w unit at here; granted = work-granted h at.there; restarted = working; shut = is }
 
-end-means : (s : Scen) (t : List Entry) (x : Site) (h : List Event) (w : Want) (slot : List ℕ) (place : ℕ) (rec : LogRec) (plan : Plan) → Before s t x h w → AtWork s t x h w → is_restarted h ≡ true
+-- where the record of a plan joins the log
+end-means : (s : Scen) (t : List Entry) (x : Site) (h : List Event) (w : Want) (slot : List ℕ) (place : ℕ) (rec : LogRec) (plan : Plan)
+    → Before s t x h w → AtWork s t x h w → is_restarted h ≡ true
     → record_of_plan plan slot ≡ Some rec → PlanNamed (ledger (settings s x) h).units plan → Serving (given_last h) (ledger (settings s x) h) plan
-    → Where (answers_done (answer_of_record rec)) (OfItem (item_at_hand s t x) (Ends (settings s x) (rec ∷ log t) h (LogOpened place rec ∷ h) (open_unit s t x)))
+    → Where (answers_done (answer_of_record rec)) (OfItem (item_at_hand s t x)
+    (Ends (settings s x) (rec ∷ log t) h (LogOpened place rec ∷ h) (open_unit s t x)))
 end-means s t x h w slot place (Put unit rrn before) plan b at working hand named serving = tt
 end-means s t x h w slot place (Commit unit) (plans.Commit u number) b at working hand named serving =
     let is : open_unit s t x serving.0 ≡ Some u = open-named s t x h w serving.0 at ∙ serving.2 named in
     let same : u ≡ unit = same-commit u unit hand in
-    of-now (Ends (settings s x) (Commit unit ∷ log t) h (LogOpened place (Commit unit) ∷ h) (open_unit s t x)) (item_at_hand s t x) (items.Commit serving.0) (item-at s t x h _ b.serves serving.1).0
+    of-now (Ends (settings s x) (Commit unit ∷ log t) h (LogOpened place (Commit unit) ∷ h) (open_unit s t x)) (item_at_hand s t x)
+    (items.Commit serving.0) (item-at s t x h _ b.serves serving.1).0
     (record {
       says = subst (StaysCommitted (Commit unit ∷ log t)) (sym is)
           (where-is (has_put (Commit unit ∷ log t) u) _ (subst (λ (q : UnitId). is_committed (Commit q ∷ log t) u ≡ true) same (commit-commits u (log t))));
@@ -209,7 +226,8 @@ end-means s t x h w slot place (Commit unit) (plans.Commit u number) b at workin
 end-means s t x h w slot place (Backout unit) (plans.Roll u number) b at working hand named serving =
     let is : open_unit s t x serving.0 ≡ Some u = open-named s t x h w serving.0 at ∙ serving.2 named in
     let same : u ≡ unit = same-backout u unit hand in
-    of-now (Ends (settings s x) (Backout unit ∷ log t) h (LogOpened place (Backout unit) ∷ h) (open_unit s t x)) (item_at_hand s t x) (items.Roll serving.0) (item-at s t x h _ b.serves serving.1).0
+    of-now (Ends (settings s x) (Backout unit ∷ log t) h (LogOpened place (Backout unit) ∷ h) (open_unit s t x)) (item_at_hand s t x)
+    (items.Roll serving.0) (item-at s t x h _ b.serves serving.1).0
     (record {
       says = subst (IsNeverCommitted (Backout unit ∷ log t)) (sym is) (open-uncommitted u (log t) (at.ledgers.unended u named));
       shut = subst (λ (o : Option UnitId). IfSome o (ShutAt (settings s x) h (LogOpened place (Backout unit) ∷ h))) (sym is)
@@ -225,9 +243,11 @@ end-means s t x h w slot place (Backout unit) (plans.Put u k value number) b at 
 end-means s t x h w slot place (Backout unit) (plans.Get k) b at working hand named serving = absurd (cc)
 end-means s t x h w slot place (Backout unit) (plans.Answer a) b at working hand named serving = absurd (cc)
 
+-- so of each LOGOPEN
 log-means : (s : Scen) (t : List Entry) (x : Site) (h : List Event) (place : ℕ) (rec : LogRec) → Before s t x h (want.LogOpen place rec)
     → (restarted : Bool) → is_restarted h ≡ restarted
-    → Where (answers_done (answer_of_end restarted rec)) (OfItem (item_at_hand s t x) (Ends (settings s x) (rec ∷ log t) h (LogOpened place rec ∷ h) (open_unit s t x)))
+    → Where (answers_done (answer_of_end restarted rec)) (OfItem (item_at_hand s t x)
+    (Ends (settings s x) (rec ∷ log t) h (LogOpened place rec ∷ h) (open_unit s t x)))
 log-means s t x h place rec b false is = tt
 log-means s t x h place rec b true is =
     let at = at-work s t x h (want.LogOpen place rec) b refl is in
@@ -242,9 +262,11 @@ means-done s t x h want.Item b = of-item s t x (Means s t x h) (item-means s t x
 means-done s t x h (want.FileRead k) b = get-done _ (last_plan s t x) (image s t k)
 means-done s t x h (want.FileWrite unit rrn value) b =
     let at = at-work s t x h (want.FileWrite unit rrn value) b refl b.due.2 in
-    put-means s t x h unit rrn value (plan_of_job (settings s x) h) b.serves at.serves.2 (subst (OfPlan (plan_of_job (settings s x) h)) b.is (next-of (settings s x) h))
+    put-means s t x h unit rrn value (plan_of_job (settings s x) h) b.serves at.serves.2
+    (subst (OfPlan (plan_of_job (settings s x) h)) b.is (next-of (settings s x) h))
 means-done s t x h (want.LogOpen place rec) b =
-    subst (λ (o : Option (List Event)). Where (answers_done (answer_of_end (is_working o) rec)) (OfItem (item_at_hand s t x) (Ends (settings s x) (rec ∷ log t) h (LogOpened place rec ∷ h) (open_unit s t x)))) (sym b.job)
+    subst (λ (o : Option (List Event)). Where (answers_done (answer_of_end (is_working o) rec))
+    (OfItem (item_at_hand s t x) (Ends (settings s x) (rec ∷ log t) h (LogOpened place rec ∷ h) (open_unit s t x)))) (sym b.job)
     (log-means s t x h place rec b (is_restarted h) refl)
 means-done s t x h _ b = tt
 
@@ -252,6 +274,7 @@ means-done s t x h _ b = tt
 abbrev pub Same : Scen → List Entry → Site → List Event → Act → Type 0
 Same s t x h a = answer_by s t x a ≡ item_answer (settings s x) (handed s t x (now t) h a ∷ h)
 
+-- an item is at hand where its plan reads the file
 given-some : (given : Option Item) (l : Ledger) (plan : Plan) (k : ℕ) → Serving given l plan → IsRead plan k → (item : Item) × (given ≡ Some item)
 given-some given l (plans.Put u n value place) k serving same = (_, serving.1)
 given-some given l (plans.Get n) k serving same = (_, serving.1)
@@ -259,7 +282,9 @@ given-some given l (plans.Commit u place) k serving same = absurd same
 given-some given l (plans.Roll u place) k serving same = absurd same
 given-some given l (plans.Answer a) k serving same = absurd same
 
-item-same : (s : Scen) (t : List Entry) (x : Site) (h : List Event) → Before s t x h want.Item → (o : Option Item) → answer_at_item s t x o ≡ item_answer (settings s x) (item_event o ∷ h)
+-- an item that is answered at its ITEM is answered alike
+item-same : (s : Scen) (t : List Entry) (x : Site) (h : List Event) → Before s t x h want.Item → (o : Option Item)
+    → answer_at_item s t x o ≡ item_answer (settings s x) (item_event o ∷ h)
 item-same s t x h b None = refl
 item-same s t x h b (Some (items.Begin name)) = ap (λ (l : Ledger). answer_of_plan (plan_of l (items.Begin name))) (item-joined s t x h b)
 item-same s t x h b (Some (items.Put name k value)) = ap (λ (l : Ledger). answer_of_plan (plan_of l (items.Put name k value))) (item-joined s t x h b)
@@ -268,10 +293,12 @@ item-same s t x h b (Some (items.Commit name)) = ap (λ (l : Ledger). answer_of_
 item-same s t x h b (Some (items.Roll name)) = ap (λ (l : Ledger). answer_of_plan (plan_of l (items.Roll name))) (item-joined s t x h b)
 item-same s t x h b (Some item) = ap (answer_of_terminals s x item) b.job
 
+-- so is a unit that ends
 end-same : (b : Bool) (rec : LogRec) → answer_of_end b rec ≡ (elim b [ true ↦ answer_of_record rec | false ↦ None ])
 end-same true rec = refl
 end-same false rec = refl
 
+-- each act answers as its job has it
 pub answers-same : (s : Scen) (t : List Entry) (x : Site) (h : List Event) (w : Want) → Before s t x h w → IfSome (act_of s t x h w) (Same s t x h)
 answers-same s t x h want.Nothing b = tt
 answers-same s t x h (want.Exit told) b = tt
@@ -283,7 +310,8 @@ answers-same s t x h (want.LogRead n) b = by (has_read_block h)
     by false = refl
 answers-same s t x h (want.FileRead k) b =
     let at = at-work s t x h (want.FileRead k) b refl b.due.0 in
-    let given = given-some (given_last h) (ledger (settings s x) h) (plan_of_job (settings s x) h) k at.serves.2 (subst (OfPlan (plan_of_job (settings s x) h)) b.is (next-of (settings s x) h)) in
+    let given = given-some (given_last h) (ledger (settings s x) h) (plan_of_job (settings s x) h) k at.serves.2
+    (subst (OfPlan (plan_of_job (settings s x) h)) b.is (next-of (settings s x) h)) in
     ap (λ (plan : Plan). answer_of_read plan (image s t k)) (item-at s t x h given.0 b.serves given.1).1
 answers-same s t x h (want.LogOpen place rec) b = ap (λ (o : Option (List Event)). answer_of_end (is_working o) rec) b.job ∙ end-same (is_restarted h) rec
 answers-same s t x h _ b = refl

@@ -44,9 +44,9 @@ use Rattle.xrf_file.specs.declared.answers.Plan.TheVariants as plans
 use Rattle.xrf_history.specs.declared.want.Want.TheVariants as want
 use Rattle.xrf_trace.specs.declared.entry.Act.TheVariants as act
 
-
 -- what is put into the file is what the PUT at hand asks
-write-same : (u unit : UnitId) (k rrn : ℕ) (v value : List ℕ) → u ≡ unit → k ≡ rrn → v ≡ value → Some (act.FileWrite u k v) ≡ Some (act.FileWrite unit rrn value)
+write-same : (u unit : UnitId) (k rrn : ℕ) (v value : List ℕ) → u ≡ unit → k ≡ rrn → v ≡ value
+    → Some (act.FileWrite u k v) ≡ Some (act.FileWrite unit rrn value)
 write-same u unit k rrn v value a b c = cc
 
 -- the open unit of a name is that of the job
@@ -54,15 +54,19 @@ pub open-named : (s : Scen) (t : List Entry) (x : Site) (h : List Event) (w : Wa
     → open_unit s t x name ≡ unit_named name (ledger (settings s x) h).units
 open-named s t x h w name at = ap (λ (o : Opened). unit_named name o.units) at.serves.0
 
+-- the item at hand asks this write
 abbrev AsksWrite : Scen → List Entry → Site → UnitId → ℕ → List ℕ → Item → Type 0
 AsksWrite s t x unit rrn value item = asked_write s t x item ≡ Some (act.FileWrite unit rrn value)
 
-asks-write : (s : Scen) (t : List Entry) (x : Site) (h : List Event) (unit : UnitId) (rrn : ℕ) (value : List ℕ) (plan : Plan) → Before s t x h (want.FileWrite unit rrn value)
+-- the write of a plan is what its item asks
+asks-write : (s : Scen) (t : List Entry) (x : Site) (h : List Event) (unit : UnitId) (rrn : ℕ) (value : List ℕ) (plan : Plan)
+    → Before s t x h (want.FileWrite unit rrn value)
     → AtWork s t x h (want.FileWrite unit rrn value) → Serving (given_last h) (ledger (settings s x) h) plan → IsWrite plan unit rrn value
     → OfItem (item_at_hand s t x) (AsksWrite s t x unit rrn value)
 asks-write s t x h unit rrn value (plans.Put u k v place) b at serving same =
     of-now (AsksWrite s t x unit rrn value) (item_at_hand s t x) (items.Put serving.0 k v) (item-at s t x h _ b.serves serving.1).0
-    (ap (option_map (λ (w : UnitId). act.FileWrite w k v)) (open-named s t x h _ serving.0 at ∙ serving.2) ∙ write-same u unit k rrn v value same.0 same.1 same.2)
+    (ap (option_map (λ (w : UnitId). act.FileWrite w k v)) (open-named s t x h _ serving.0 at ∙ serving.2)
+    ∙ write-same u unit k rrn v value same.0 same.1 same.2)
 asks-write s t x h unit rrn value (plans.Get k) b at serving same = absurd same
 asks-write s t x h unit rrn value (plans.Commit u place) b at serving same = absurd same
 asks-write s t x h unit rrn value (plans.Roll u place) b at serving same = absurd same
@@ -72,14 +76,19 @@ asks-write s t x h unit rrn value (plans.Answer a) b at serving same = absurd sa
 abbrev AsksRecord : Scen → List Entry → Site → LogRec → Item → Type 0
 AsksRecord s t x rec item = asked_record s t x item ≡ Some rec
 
-put-record : (u unit : UnitId) (k rrn : ℕ) (slot before image : List ℕ) → ◌≡◌ {A = Option LogRec} (Some (Put u k slot)) (Some (Put unit rrn before)) → before ≡ image
+-- the Put that is asked has the slot as it is
+put-record : (u unit : UnitId) (k rrn : ℕ) (slot before image : List ℕ) → ◌≡◌ {A = Option LogRec} (Some (Put u k slot)) (Some (Put unit rrn before))
+    → before ≡ image
     → ◌≡◌ {A = Option LogRec} (Some (Put u k image)) (Some (Put unit rrn before))
 put-record u unit k rrn slot before image same is = cc
 
+-- Puts that are the same have one record number
 same-rrn : (u unit : UnitId) (k rrn : ℕ) (slot before : List ℕ) → ◌≡◌ {A = Option LogRec} (Some (Put u k slot)) (Some (Put unit rrn before)) → rrn ≡ k
 same-rrn u unit k rrn slot before same = cc
 
-asks-record : (s : Scen) (t : List Entry) (x : Site) (h : List Event) (w : Want) (slot : List ℕ) (rec : LogRec) (plan : Plan) → Before s t x h w → AtWork s t x h w
+-- the record of a plan is what its item asks
+asks-record : (s : Scen) (t : List Entry) (x : Site) (h : List Event) (w : Want) (slot : List ℕ) (rec : LogRec) (plan : Plan) → Before s t x h w
+    → AtWork s t x h w
     → record_of_plan plan slot ≡ Some rec → PlanNamed (ledger (settings s x) h).units plan → Serving (given_last h) (ledger (settings s x) h) plan
     → RecordDue s.settings.log (first_value s) (view s t) rec → OfItem (item_at_hand s t x) (AsksRecord s t x rec)
 asks-record s t x h w slot (Put unit rrn before) (plans.Put u k value place) b at hand named serving due =
@@ -108,6 +117,7 @@ restart-backout (unit ∷ left) (Backout u) hand = refl
 restart-backout (unit ∷ left) (Put u rrn before) hand = absurd (cc)
 restart-backout (unit ∷ left) (Commit u) hand = absurd (cc)
 
+-- so of a LOGOPEN, in a restart and at work
 logs-asked : (s : Scen) (t : List Entry) (x : Site) (h : List Event) (place : ℕ) (rec : LogRec) → Before s t x h (want.LogOpen place rec)
     → (restarted : Bool) → is_restarted h ≡ restarted → LogsAsked s t x rec restarted
 logs-asked s t x h place rec b true is =
@@ -116,6 +126,7 @@ logs-asked s t x h place rec b true is =
     asks-record s t x h (want.LogOpen place rec) (slot_read h) rec (plan_of_job (settings s x) h) b at hand (b.named at.there at.sound is) at.serves.2 b.due.1
 logs-asked s t x h place rec b false is = restart-backout (backouts_left (settings s x) h) rec (restart-hand (settings s x) h rec is b.due.3)
 
+-- what each act logs or writes is asked
 pub is-asked : (s : Scen) (t : List Entry) (x : Site) (h : List Event) (w : Want) → Before s t x h w → IfSome (act_of s t x h w) (IsAsked s t x h)
 is-asked s t x h want.Nothing b = tt
 is-asked s t x h (want.Exit told) b = tt
@@ -123,7 +134,8 @@ is-asked s t x h want.Item b = of-item s t x (IsAsked s t x h) tt
 is-asked s t x h (want.LogOpen place rec) b = logs-asked s t x h place rec b (is_restarted h) refl
 is-asked s t x h (want.FileWrite unit rrn value) b =
     let at = at-work s t x h (want.FileWrite unit rrn value) b refl b.due.2 in
-    asks-write s t x h unit rrn value (plan_of_job (settings s x) h) b at at.serves.2 (subst (OfPlan (plan_of_job (settings s x) h)) b.is (next-of (settings s x) h))
+    asks-write s t x h unit rrn value (plan_of_job (settings s x) h) b at at.serves.2
+    (subst (OfPlan (plan_of_job (settings s x) h)) b.is (next-of (settings s x) h))
 is-asked s t x h _ b = tt
 
 -- a unit in flight has not ended
@@ -137,16 +149,20 @@ found-kept q unit (u ∷ units) found = by (q u) (same_unit u unit) refl refl (f
     by true false e f rest found = rest (sym (rw f refl) ∙ found)
     by false b e f rest found = rest found
 
+-- a unit in flight has not ended
 flight-open : (unit : UnitId) (records : List LogRec) → list_any (λ u. same_unit u unit) (flight records) ≡ true → has_ended unit records ≡ false
 flight-open unit records found = of-not (has_ended unit records) (found-kept (λ u. not (has_ended u records)) unit (put_units records) found)
 
 -- nothing is logged of a unit that has ended
-record-open : (s : Scen) (t : List Entry) (size : ℕ) (first : ℕ → Option (List ℕ)) (rec : LogRec) → RecordDue size first (view s t) rec → has_ended (unit_of rec) (log t) ≡ false
+record-open : (s : Scen) (t : List Entry) (size : ℕ) (first : ℕ → Option (List ℕ)) (rec : LogRec) → RecordDue size first (view s t) rec
+    → has_ended (unit_of rec) (log t) ≡ false
 record-open s t size first (Put unit rrn before) due = due.1
 record-open s t size first (Commit unit) due = flight-open unit (log t) due.0
 record-open s t size first (Backout unit) due = flight-open unit (log t) due.0
 
-pub of-no-ended : (s : Scen) (t : List Entry) (x : Site) (h : List Event) (w : Want) (l : Land) → Before s t x h w → IfSome (act_of s t x h w) (λ a. IsOfNoEnded t a l)
+-- no act logs or writes of a unit that has ended
+pub of-no-ended : (s : Scen) (t : List Entry) (x : Site) (h : List Event) (w : Want) (l : Land) → Before s t x h w
+    → IfSome (act_of s t x h w) (λ a. IsOfNoEnded t a l)
 of-no-ended s t x h want.Nothing l b = tt
 of-no-ended s t x h (want.Exit told) l b = tt
 of-no-ended s t x h want.Item l b = of-item s t x (λ a. IsOfNoEnded t a l) tt
@@ -159,17 +175,21 @@ row-put : (unit : UnitId) (records : List LogRec) → has_row unit records ≡ f
 row-put unit [] none = refl
 row-put unit (Put u rrn before ∷ records) none = by (same_unit u unit) refl (row-put unit records) none
   where
-    by : (b : Bool) → same_unit u unit ≡ b → (has_row unit records ≡ false → list_any (is_put_of unit) records ≡ false) → (b || has_row unit records) ≡ false → (same_unit unit u || list_any (is_put_of unit) records) ≡ false
+    by : (b : Bool) → same_unit u unit ≡ b → (has_row unit records ≡ false → list_any (is_put_of unit) records ≡ false)
+        → (b || has_row unit records) ≡ false → (same_unit unit u || list_any (is_put_of unit) records) ≡ false
     by true e rest none = absurd (cc)
     by false e rest none = ap (λ (b : Bool). b || list_any (is_put_of unit) records) (same-turned u unit e) ∙ rest none
 row-put unit (Commit u ∷ records) none = row-put unit records none
 row-put unit (Backout u ∷ records) none = row-put unit records none
 
-pub cold-put : (unit : UnitId) (records : List LogRec) → has_ended unit records ≡ false → is_hot unit (open_numbered records) ≡ false → list_any (is_put_of unit) records ≡ false
+-- an open unit that is not hot has no Put in the log
+pub cold-put : (unit : UnitId) (records : List LogRec) → has_ended unit records ≡ false → is_hot unit (open_numbered records) ≡ false
+    → list_any (is_put_of unit) records ≡ false
 cold-put unit records open_yet cold =
     row-put unit records (sym (hot-rows (λ u. not (has_ended u records)) unit records (not-of-false (has_ended unit records) open_yet)) ∙ cold)
 
 -- where an item is answered at once
-pub open-here : (s : Scen) (t : List Entry) (x : Site) (h : List Event) (w : Want) (name : List ℕ) (unit : UnitId) → AtWork s t x h w → open_unit s t x name ≡ Some unit
+pub open-here : (s : Scen) (t : List Entry) (x : Site) (h : List Event) (w : Want) (name : List ℕ) (unit : UnitId) → AtWork s t x h w
+    → open_unit s t x name ≡ Some unit
     → IsOpenUnit unit (ledger (settings s x) h).units
 open-here s t x h w name unit at is = named-open name (ledger (settings s x) h).units unit (sym (open-named s t x h w name at) ∙ is)

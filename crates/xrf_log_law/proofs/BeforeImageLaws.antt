@@ -9,6 +9,7 @@ use Rattle.xrf_logrec.proofs.LogLaws.{same_unit-true}
 use Rattle.xrf_log.specs.declared.taken.Row.{Row}
 use Rattle.xrf_log_law.specs.BeforeImages.{covers, undo_at, has_put, other_has_put, AreLocked, IsUndone}
 use Rattle.xrf_log_law.proofs.Tests.{eq-of-true, false-if, no-clash}
+
 -- where a row is of the record, what stood there does not matter
 pub covered-same : (r : ℕ) (rows : List Undo) (x y : List ℕ) → covers r rows ≡ true → undo_at r rows x ≡ undo_at r rows y
 covered-same r [] x y covered = absurd (cc)
@@ -28,6 +29,7 @@ uncovered-as_is r (row ∷ rows) x none = by (row.rrn == r) (uncovered-as_is r r
     by true rest none = absurd (cc)
     by false rest none = rest none
 
+-- the undo rows of some puts
 abbrev pub undos : List Row → List Undo
 undos rows = map (λ row. row.undo) rows
 
@@ -36,14 +38,16 @@ abbrev pub without : UnitId → List Row → List Row
 without unit rows = filter (λ row. not (same_unit row.unit unit)) rows
 
 -- at a record that the unit has not put, its rows can go
-pub without-unput : (unit : UnitId) (r : ℕ) (rows : List Row) (x : List ℕ) → has_put unit r rows ≡ false → undo_at r (undos (without unit rows)) x ≡ undo_at r (undos rows) x
+pub without-unput : (unit : UnitId) (r : ℕ) (rows : List Row) (x : List ℕ) → has_put unit r rows ≡ false
+    → undo_at r (undos (without unit rows)) x ≡ undo_at r (undos rows) x
 without-unput unit r [] x none = refl
 without-unput unit r (row ∷ rows) x none = by (same_unit row.unit unit) (row.undo.rrn == r) refl (λ y. without-unput unit r rows y) none
   where
     by : (own here : Bool) → (row.undo.rrn == r) ≡ here
         → ((y : List ℕ) → has_put unit r rows ≡ false → undo_at r (undos (without unit rows)) y ≡ undo_at r (undos rows) y)
         → ((here && own) || has_put unit r rows) ≡ false
-        → undo_at r (undos (cond (not own) (row ∷ without unit rows) (without unit rows))) x ≡ undo_at r (undos rows) (if row.undo.rrn == r then row.undo.before else x)
+        → undo_at r (undos (cond (not own) (row ∷ without unit rows) (without unit rows))) x ≡ undo_at r (undos rows)
+        (if row.undo.rrn == r then row.undo.before else x)
     by true true e rest none = absurd (cc)
     by true false e rest none = rw e (rest x none)
     by false true e rest none = rest (if row.undo.rrn == r then row.undo.before else x) none
@@ -73,6 +77,7 @@ any-filter p q (row ∷ rows) none = by (q row) (p row) refl (any-filter p q row
     by true false e rest none = rw e (rest none)
     by false false e rest none = rest none
 
+-- without the rows of a unit the others are locked still
 pub without-locked : (unit : UnitId) (rows : List Row) → AreLocked rows → AreLocked (without unit rows)
 without-locked unit rows locked u r put =
     any-filter (λ row. row.undo.rrn == r && not (same_unit row.unit u)) (λ row. not (same_unit row.unit unit)) rows
@@ -88,6 +93,7 @@ without-locked unit rows locked u r put =
 abbrev pub put_row : UnitId → ℕ → List ℕ → Row
 put_row u r b = record { unit = u; undo = record { rrn = r; before = b } }
 
+-- a unit is itself
 pub same_unit-refl : (u : UnitId) → same_unit u u ≡ true
 same_unit-refl u = grind (arith, common_steps)
 
@@ -105,19 +111,25 @@ put-found u v r (row ∷ rows) differ put = by (row.undo.rrn == r) (same_unit ro
     by true false false e f rest put = refl
     by false own own_v e f rest put = rest put
 
+-- a put of a record that no other open unit has put keeps the locks
 push-locked : (u : UnitId) (r : ℕ) (b : List ℕ) (rows : List Row) → other_has_put u r rows ≡ false → AreLocked rows → AreLocked (put_row u r b ∷ rows)
 push-locked u r b rows free locked v k put = by (r == k) (same_unit u v) refl refl put
   where
-    by : (here own : Bool) → (r == k) ≡ here → same_unit u v ≡ own → ((here && own) || has_put v k rows) ≡ true → ((here && not own) || other_has_put v k rows) ≡ false
+    by : (here own : Bool) → (r == k) ≡ here → same_unit u v ≡ own → ((here && own) || has_put v k rows) ≡ true
+        → ((here && not own) || other_has_put v k rows) ≡ false
     by true true e f put =
-        subst (λ (n : ℕ). other_has_put v n rows ≡ false) (eq-of-true r k e) (subst (λ (w : UnitId). other_has_put w r rows ≡ false) (same_unit-true u v f) free)
+        subst (λ (n : ℕ). other_has_put v n rows ≡ false) (eq-of-true r k e)
+        (subst (λ (w : UnitId). other_has_put w r rows ≡ false) (same_unit-true u v f) free)
     by true false e f put =
         no-clash (other_has_put u k rows) (put-found v u k rows (differ f) put) (subst (λ (n : ℕ). other_has_put u n rows ≡ false) (eq-of-true r k e) free)
       where
         differ : same_unit u v ≡ false → same_unit v u ≡ false
-        differ f = false-if (same_unit v u) (λ g. no-clash (same_unit u v) (subst (λ (w : UnitId). same_unit w v ≡ true) (same_unit-true v u g) (same_unit-refl v)) f)
+        differ f =
+            false-if (same_unit v u) (λ g. no-clash (same_unit u v)
+            (subst (λ (w : UnitId). same_unit w v ≡ true) (same_unit-true v u g) (same_unit-refl v)) f)
     by false own e f put = locked v k put
 
+-- and its before-image is what stands there
 pub put-undone : (u : UnitId) (r : ℕ) (b : List ℕ) (rows : List Row) (image booked : ℕ → List ℕ) → other_has_put u r rows ≡ false → b ≡ image r
     → IsUndone rows image booked → IsUndone (put_row u r b ∷ rows) image booked
 put-undone u r b rows image booked free read undone = record {
@@ -137,7 +149,8 @@ write-undone r change rows image booked covered undone = record {
   back = λ k. by k (k == r) refl ∙ undone.back k;
 }
   where
-    by : (k : ℕ) (here : Bool) → (k == r) ≡ here → undo_at k (undos rows) (elim here [ true ↦ change (image k) | false ↦ image k ]) ≡ undo_at k (undos rows) (image k)
+    by : (k : ℕ) (here : Bool) → (k == r) ≡ here → undo_at k (undos rows) (elim here [ true ↦ change (image k) | false ↦ image k ]) ≡ undo_at k
+        (undos rows) (image k)
     by k true e = covered-same k (undos rows) (change (image k)) (image k) (subst (λ (n : ℕ). covers n (undos rows) ≡ true) (sym (eq-of-true k r e)) covered)
     by k false e = refl
 
@@ -154,7 +167,8 @@ end-undone u rows image booked after own others undone = record {
     by r false e = without-unput u r rows (image r) e ∙ undone.back r ∙ others r e
 
 -- one that is undone as far as some rows are left: the first of them is written
-pub left-at : (row : Undo) (rows : List Undo) (r : ℕ) (slot book : List ℕ) → undo_at r (row ∷ rows) slot ≡ book → undo_at r rows (elim (r == row.rrn) [ true ↦ row.before | false ↦ slot ]) ≡ book
+pub left-at : (row : Undo) (rows : List Undo) (r : ℕ) (slot book : List ℕ) → undo_at r (row ∷ rows) slot ≡ book
+    → undo_at r rows (elim (r == row.rrn) [ true ↦ row.before | false ↦ slot ]) ≡ book
 left-at row rows r slot book left = by (row.rrn == r) (r == row.rrn) refl refl left
   where
     by : (a b : Bool) → (row.rrn == r) ≡ a → (r == row.rrn) ≡ b → undo_at r rows (if a then row.before else slot) ≡ book

@@ -22,7 +22,8 @@ use Rattle.xrf_history.specs.declared.want.Want.TheVariants as want
 -- an alternate that tracks is idle
 tracks-idle : (p : Settings) (h : List Event) → Idle (alternate_tracks p h)
 tracks-idle p h =
-    choose_if Idle (through_due h) _ _ (λ e. refl) (λ e. choose_if Idle (round_due h) _ _ (λ e. refl) (λ e. choose_if Idle (reading_due h) _ _ (λ e. refl) (λ e. refl)))
+    choose_if Idle (through_due h) _ _ (λ e. refl) (λ e. choose_if Idle (round_due h) _ _ (λ e. refl)
+    (λ e. choose_if Idle (reading_due h) _ _ (λ e. refl) (λ e. refl)))
 
 -- one that starts its takeover is idle
 starts-idle : (p : Settings) (h : List Event) (start : Option Cause) → Idle (alternate_starts p h start)

@@ -40,6 +40,7 @@ pub record EntryConditions (s : Scen) (t : List Entry) (e : Entry) : Type 0 wher
   pub written : MayBeWritten s t e.act
   pub reads : ReadsSlot s t e.act
 
+-- a choice that reaches a job writes no slot
 quiet-written : (s : Scen) (t : List Entry) (a : Act) → is_quiet a ≡ true → MayBeWritten s t a
 quiet-written s t (act.LogClose p) e = false-true e
 quiet-written s t (act.LogBody p rec) e = false-true e
@@ -49,10 +50,12 @@ quiet-written s t (act.KpBody k keypoint) e = false-true e
 quiet-written s t (act.KpOpen k keypoint) e = false-true e
 quiet-written s t _ e = tt
 
+-- nor does it read one
 quiet-reads : (s : Scen) (t : List Entry) (a : Act) → is_quiet a ≡ true → ReadsSlot s t a
 quiet-reads s t (act.FileRead k) quiet = absurd (cc)
 quiet-reads s t _ quiet = tt
 
+-- nor does it touch a data set
 quiet-within : (s : Scen) (a : Act) → is_quiet a ≡ true → IsWithin s a
 quiet-within s (act.LogRead b) quiet = absurd (cc)
 quiet-within s (act.FileRead k) quiet = absurd (cc)
@@ -64,9 +67,11 @@ quiet-within s _ quiet = tt
 empty-fits : (size : ℕ) → 64 ≤ size → ScanFits size (cleared size)
 empty-fits size least = record { records = omega arith; block = omega (arith, least); flight = λ e. false-true e }
 
+-- a log has 64 slots at least
 scan-least : (s : Scen) {t : List Entry} → Invariant s t → 64 ≤ s.settings.log
 scan-least s k = k.scen.limits.log_least
 
+-- of each kind of entry
 pub go-kinds : (s : Scen) (t : List Entry) → Invariant s t → Kinds s t (λ e. EntryConditions s t e)
 go-kinds s t k = record {
   tick = record { within = tt; scans = tick k.scans; written = tt; reads = tt };
@@ -78,19 +83,30 @@ go-kinds s t k = record {
       let own : OwnAfter s t x a l (Some h) (JobScanFits s x) = own-after s t x h a l (JobScanFits s x) is may (unless-gone a (Fits s t x h a) after) here in
       record {
         within = subst (λ (o : Option Act). IfSome o (IsWithin s)) is (is-within s t x h _ b here);
-        scans = sites-after s t x (inc_at a (Some h)) a l (JobScanFits s) (subst (λ (o : Option (List Event)). OwnAfter s t x a l o (JobScanFits s x)) (sym job) own)
+        scans =
+            sites-after s t x (inc_at a (Some h)) a l (JobScanFits s)
+            (subst (λ (o : Option (List Event)). OwnAfter s t x a l o (JobScanFits s x)) (sym job) own)
             (own-other s t x h a (hist s t (other x)) is) (k.scans (other x));
         written = subst (λ (o : Option Act). IfSome o (MayBeWritten s t)) is (may-be-written s t x h _ b);
         reads = subst (λ (o : Option Act). IfSome o (ReadsSlot s t)) is (reads-slot s t x h _ b);
       });
   quiet = λ x i a quiet. record {
     within = quiet-within s a quiet;
-    scans = sites-after s t x i a land.Full (JobScanFits s) (quiet-after s t x a (hist s t x) (JobScanFits s x) quiet (quiet-fits s t x a (hist s t x) quiet (k.scans x)))
+    scans =
+        sites-after s t x i a land.Full (JobScanFits s) (quiet-after s t x a (hist s t x) (JobScanFits s x) quiet
+        (quiet-fits s t x a (hist s t x) quiet (k.scans x)))
         (quiet-other a (hist s t (other x)) quiet) (k.scans (other x));
     written = quiet-written s t a quiet;
     reads = quiet-reads s t a quiet;
   };
-  stop = λ x i cut. record { within = tt; scans = sites-after s t x i act.NoAct (land.Stop cut) (JobScanFits s) tt refl (k.scans (other x)); written = tt; reads = tt };
+  stop =
+      λ x i cut. record {
+        within = tt;
+        scans = sites-after s t x i act.NoAct (land.Stop cut) (JobScanFits s) tt refl
+            (k.scans (other x));
+        written = tt;
+        reads = tt;
+      };
   active = λ x. record {
     within = tt;
     scans = sites-after s t x 0 act.StartActive land.Full (JobScanFits s) (empty-fits s.settings.log (scan-least s k)) refl (k.scans (other x));

@@ -32,7 +32,8 @@ use Rattle.xrf_log_law.proofs.Boundaries.{boundary-data}
 use Rattle.xrf_history.specs.declared.want.Want.TheVariants as want
 
 -- a record that is written at the end of the log
-pub log_write-due : (p : Settings) (first : ℕ → Option (List ℕ)) (v : View) (j : JobView) (place : ℕ) (rec : LogRec) → State p.limits.log first v → AtEnd p.limits.log place (log_part v)
+pub log_write-due : (p : Settings) (first : ℕ → Option (List ℕ)) (v : View) (j : JobView) (place : ℕ) (rec : LogRec) → State p.limits.log first v
+    → AtEnd p.limits.log place (log_part v)
     → RecordDue p.limits.log first v rec → j.hand ≡ Some rec → RestartDue j → Due p.limits.log first v j (log_write p place rec)
 log_write-due p first v j place rec state at due hand restart =
     choose (Due p.limits.log first v j) (nat_le p.limits.log place) _ _
@@ -50,11 +51,16 @@ head-found unit units all is =
     let e : same_unit unit unit ≡ true = same_unit-refl unit in
     ap (list_any (λ u. same_unit u unit)) is ∙ rw e refl
 
-backout-hand : (p : Settings) (h : List Event) (unit : UnitId) (units : List UnitId) → is_restarted h ≡ false → backouts_left p h ≡ unit ∷ units → record_at_hand p h ≡ Some (Backout unit)
+-- it is the record at hand
+backout-hand : (p : Settings) (h : List Event) (unit : UnitId) (units : List UnitId) → is_restarted h ≡ false → backouts_left p h ≡ unit ∷ units
+    → record_at_hand p h ≡ Some (Backout unit)
 backout-hand p h unit units restart is =
-    subst (λ (b : Bool). (elim b [ true ↦ record_of_plan (last_plan p h) (slot_read h) | false ↦ record_of_restart (backouts_left p h) ]) ≡ Some (Backout unit)) (sym restart) (ap record_of_restart is)
+    subst (λ (b : Bool). (elim b [ true ↦ record_of_plan (last_plan p h) (slot_read h) | false ↦ record_of_restart (backouts_left p h) ]) ≡ Some
+    (Backout unit)) (sym restart) (ap record_of_restart is)
 
-backout-due : (p : Settings) (first : ℕ → Option (List ℕ)) (v : View) (h : List Event) (left : List UnitId) → State p.limits.log first v → is_restarted h ≡ false → (scan p h).ended ≡ true → Undoes first v (restart_view p h)
+-- a Backout, or RESTARTED where none is left
+backout-due : (p : Settings) (first : ℕ → Option (List ℕ)) (v : View) (h : List Event) (left : List UnitId) → State p.limits.log first v
+    → is_restarted h ≡ false → (scan p h).ended ≡ true → Undoes first v (restart_view p h)
     → rows_left p h ≡ [] → backouts_left p h ≡ left → Due p.limits.log first v (job_view p h) (backout_next p h left)
 backout-due p first v h [] state restart ended undoes none is =
     (restart, ended, sym undoes.backouts ∙ is, λ r. subst (λ (rows : List Undo). undo_at r rows (v.image r) ≡ booked first v r) none (undoes.left r))
@@ -65,7 +71,9 @@ backout-due p first v h (unit ∷ units) state restart ended undoes none is =
     (head-found unit units (flight v.log) some, λ r put. subst (λ (rows : List Undo). undo_at r rows (v.image r) ≡ booked first v r) none (undoes.left r))
     (backout-hand p h unit units restart is) (λ e. (ended, none))
 
-undo-due : (p : Settings) (first : ℕ → Option (List ℕ)) (v : View) (h : List Event) (rows : List Undo) → State p.limits.log first v → is_restarted h ≡ false → (scan p h).ended ≡ true → Undoes first v (restart_view p h)
+-- an undo row, or a Backout where none is left
+undo-due : (p : Settings) (first : ℕ → Option (List ℕ)) (v : View) (h : List Event) (rows : List Undo) → State p.limits.log first v
+    → is_restarted h ≡ false → (scan p h).ended ≡ true → Undoes first v (restart_view p h)
     → rows_left p h ≡ rows → Due p.limits.log first v (job_view p h) (undo_next p h rows)
 undo-due p first v h [] state restart ended undoes is = backout-due p first v h (backouts_left p h) state restart ended undoes is refl
 undo-due p first v h (row ∷ rows) state restart ended undoes is =
@@ -74,10 +82,13 @@ undo-due p first v h (row ∷ rows) state restart ended undoes is =
     own : (k : ℕ) → (k == k || covers k rows) ≡ true
     own k = let e : (k == k) ≡ true = grind (arith, common_steps) in rw e refl
 
-restart-due : (p : Settings) (first : ℕ → Option (List ℕ)) (v : View) (h : List Event) → State p.limits.log first v → is_restarted h ≡ false → ((scan p h).ended ≡ true → Undoes first v (restart_view p h))
+-- a block of the log, or an undo row once the scan has ended
+restart-due : (p : Settings) (first : ℕ → Option (List ℕ)) (v : View) (h : List Event) → State p.limits.log first v → is_restarted h ≡ false
+    → ((scan p h).ended ≡ true → Undoes first v (restart_view p h))
     → Due p.limits.log first v (job_view p h) (restart_next p h)
 restart-due p first v h state restart undoes =
-    choose (Due p.limits.log first v (job_view p h)) (scan p h).ended _ _ (λ e. undo-due p first v h (rows_left p h) state restart e (undoes e) refl) (λ e. (restart, e, refl))
+    choose (Due p.limits.log first v (job_view p h)) (scan p h).ended _ _ (λ e. undo-due p first v h (rows_left p h) state restart e (undoes e) refl)
+    (λ e. (restart, e, refl))
 
 -- an alternate is_active none of it
 pub idle-due : (size : ℕ) (first : ℕ → Option (List ℕ)) (v : View) (j : JobView) (w : Want) → is_idle w ≡ true → Due size first v j w
@@ -103,6 +114,7 @@ pub record AtBoundary (first : ℕ → Option (List ℕ)) (v : View) (p : Settin
   pub restart : is_restarted h ≡ false → (scan p h).ended ≡ true → Undoes first v (restart_view p h)
   pub work : is_restarted h ≡ true → keypoint_due p h ≡ true → KeyDue v (next_keypoint p h)
 
+-- the KEY slot of the next keypoint
 key-place : (v : View) (keypoint : Keypoint) → KeyDue v keypoint → keypoint.number % 2 ≡ (v.number + 1) % 2
 key-place v keypoint due = ap (λ (n : ℕ). n % 2) due.next
 
@@ -114,7 +126,8 @@ work-due p first v h working at =
     (λ e. (key-place v (next_keypoint p h) (at.work working e), at.work working e, working)) (λ e. (working, at.sound))
 
 -- what is due at a boundary
-pub boundary-due : (p : Settings) (first : ℕ → Option (List ℕ)) (v : View) (h : List Event) → State p.limits.log first v → (is_owner h ≡ true → sign_off_due h ≡ None → AtBoundary first v p h)
+pub boundary-due : (p : Settings) (first : ℕ → Option (List ℕ)) (v : View) (h : List Event) → State p.limits.log first v
+    → (is_owner h ≡ true → sign_off_due h ≡ None → AtBoundary first v p h)
     → Due p.limits.log first v (job_view p h) (boundary p h)
 boundary-due p first v h state at = boundary-data p h (Due p.limits.log first v (job_view p h)) (record {
   idle = λ w idle. idle-due p.limits.log first v (job_view p h) w idle;

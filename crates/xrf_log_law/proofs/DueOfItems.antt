@@ -31,6 +31,7 @@ use Rattle.xrf_log_law.proofs.Tests.{choose_if, and-right}
 use Rattle.xrf_base.specs.declared.items.Item.TheVariants as items
 use Rattle.xrf_file.specs.declared.answers.Plan.TheVariants as plans
 
+-- the unit of a name is open
 pub named-open : (name : List ℕ) (units : List OpenUnit) (unit : UnitId) → unit_named name units ≡ Some unit → IsOpenUnit unit units
 named-open name [] unit is = absurd (cc)
 named-open name (o ∷ units) unit is = by (pointwise nat_eq o.name name) is (named-open name units unit)
@@ -38,26 +39,40 @@ named-open name (o ∷ units) unit is = by (pointwise nat_eq o.name name) is (na
     some-same : (a b : UnitId) → Some a ≡ Some b → a ≡ b
     some-same a b same = cc
 
-    by : (b : Bool) → (if b then Some o.unit else unit_named name units) ≡ Some unit → (unit_named name units ≡ Some unit → IsOpenUnit unit units) → (same_unit o.unit unit || list_any (λ (q : OpenUnit). same_unit q.unit unit) units) ≡ true
-    by true is rest = let e : same_unit o.unit unit ≡ true = subst (λ (u : UnitId). same_unit o.unit u ≡ true) (some-same o.unit unit is) (same_unit-refl o.unit) in rw e refl
+    by : (b : Bool) → (if b then Some o.unit else unit_named name units) ≡ Some unit → (unit_named name units ≡ Some unit → IsOpenUnit unit units)
+        → (same_unit o.unit unit || list_any (λ (q : OpenUnit). same_unit q.unit unit) units) ≡ true
+    by true is rest =
+        let e : same_unit o.unit unit ≡ true = subst (λ (u : UnitId). same_unit o.unit u ≡ true) (some-same o.unit unit is)
+        (same_unit-refl o.unit) in rw e refl
     by false is rest = second (same_unit o.unit unit) (list_any (λ (q : OpenUnit). same_unit q.unit unit) units) (rest is)
       where
         second : (a b : Bool) → b ≡ true → (a || b) ≡ true
         second true b e = refl
         second false b e = e
 
+-- where a unit is found there is one
 some-flight : (unit : UnitId) (units : List UnitId) → list_any (λ u. same_unit u unit) units ≡ true → 1 ≤ length units
 some-flight unit [] found = absurd (cc)
 some-flight unit (u ∷ units) found = omega arith
 
 -- a unit that is hot ends at the end of the log
-end-at : (size : ℕ) (first : ℕ → Option (List ℕ)) (v : View) (l : Ledger) (unit : UnitId) → State size first v → Ledgers size v.log v.start l → is_hot unit l.puts ≡ true
+end-at : (size : ℕ) (first : ℕ → Option (List ℕ)) (v : View) (l : Ledger) (unit : UnitId) → State size first v → Ledgers size v.log v.start l
+    → is_hot unit l.puts ≡ true
     → AtEnd size l.next (log_part v) × (list_any (λ u. same_unit u unit) (flight v.log) ≡ true)
 end-at size first v l unit state is hot =
-    let found : list_any (λ u. same_unit u unit) (flight v.log) ≡ true = hot-in_flight v.log unit (sym (ap (is_hot unit) is.puts) ∙ hot) in
-    (record { next = sym is.next; start = omega (arith, is.next, state.within); room = omega (arith, is.next, state.room, some-flight unit (flight v.log) found) }, found)
+    let found : list_any (λ u. same_unit u unit) (flight v.log) ≡ true = hot-in_flight v.log unit (sym (ap (is_hot unit) is.puts) ∙ hot) in (
+      record {
+        next = sym is.next;
+        start = omega (arith, is.next, state.within);
+        room = omega
+            (arith, is.next, state.room, some-flight unit (flight v.log) found);
+      },
+      found,
+    )
 
-put-due : (size : ℕ) (first : ℕ → Option (List ℕ)) (v : View) (l : Ledger) (rolled : UnitId → List Undo) (unit : UnitId) (rrn : ℕ) (value : List ℕ) → State size first v → Ledgers size v.log v.start l
+-- what is due of a PUT that is planned
+put-due : (size : ℕ) (first : ℕ → Option (List ℕ)) (v : View) (l : Ledger) (rolled : UnitId → List Undo) (unit : UnitId) (rrn : ℕ) (value : List ℕ)
+    → State size first v → Ledgers size v.log v.start l
     → IsOpenUnit unit l.units → is_locked unit rrn l.puts ≡ false → is_log_full l unit ≡ false → PlanDue size first v rolled (plans.Put unit rrn value l.next)
 put-due size first v l rolled unit rrn value state is here free room =
     let open_yet : has_ended unit v.log ≡ false = is.unended unit here in
@@ -68,20 +83,36 @@ put-due size first v l rolled unit rrn value state is here free room =
       record {
         open_yet = open_yet;
         free = sym (locked-free v.log unit rrn) ∙ sym (ap (is_locked unit rrn) is.puts) ∙ free;
-        room = λ before. omega (arith, flight-hot_with v.log unit rrn before l.units open_yet here named, count, fits, is.next, is.begins, is.slots, state.within);
+        room =
+            λ before. omega (
+              arith,
+              flight-hot_with v.log unit rrn before l.units open_yet here named,
+              count,
+              fits,
+              is.next,
+              is.begins,
+              is.slots,
+              state.within,
+            );
       },
     )
 
-roll-due : (first : ℕ → Option (List ℕ)) (size : ℕ) (v : View) (l : Ledger) (unit : UnitId) → State size first v → Ledgers size v.log v.start l → list_any (λ u. same_unit u unit) (flight v.log) ≡ true
+-- what is due of a ROLL that is planned
+roll-due : (first : ℕ → Option (List ℕ)) (size : ℕ) (v : View) (l : Ledger) (unit : UnitId) → State size first v → Ledgers size v.log v.start l
+    → list_any (λ u. same_unit u unit) (flight v.log) ≡ true
     → RollDue first v unit (undo_of unit l.puts)
 roll-due first size v l unit state is found =
-    let rows : undo_of unit l.puts ≡ map (λ (row : Row). row.undo) (filter (λ row. same_unit row.unit unit) (open_puts v.log)) = ap (undo_of unit) is.puts ∙ own-rows v.log unit in
+    let rows : undo_of unit l.puts ≡ map (λ (row : Row). row.undo) (filter (λ row. same_unit row.unit unit) (open_puts v.log)) = ap
+    (undo_of unit) is.puts ∙ own-rows v.log unit in
     record {
       hot = found;
-      left = λ r put. ap (λ (u : List Undo). undo_at r u (v.image r)) rows ∙ own-undone unit r (open_puts v.log) (v.image r) (state.undone.locked unit r put) ∙ state.undone.back r;
+      left =
+          λ r put. ap (λ (u : List Undo). undo_at r u (v.image r)) rows
+          ∙ own-undone unit r (open_puts v.log) (v.image r) (state.undone.locked unit r put) ∙ state.undone.back r;
       own = λ r covered. own-covers unit r (open_puts v.log) (sym (ap (covers r) rows) ∙ covered);
     }
 
+-- what is due of each plan
 item-due : (size : ℕ) (first : ℕ → Option (List ℕ)) (v : View) (l : Ledger) (item : Item) → State size first v → Ledgers size v.log v.start l → Last first v
     → PlanDue size first v (λ u. drop 0 (undo_rows u (planned l item))) (plan_of l item)
 item-due size first v l (items.Put name rrn value) state is last = by (unit_named name l.units) refl
@@ -124,15 +155,23 @@ item-due size first v l (items.Roll name) state is last = by (unit_named name l.
     by None = tt
     by (Some unit) =
         choose_if (PlanDue size first v (λ u. drop 0 (undo_rows u (planned l (items.Roll name))))) (is_hot unit l.puts) _ _
-        (λ hot. (let end = end-at size first v l unit state is hot in
-        (end.0, subst (λ (p : List LoggedPut). RollDue first v unit (undo_of unit p)) (sym (same-puts (unit_named name l.units))) (roll-due first size v l unit state is end.1)))) (λ b. tt)
+        (λ hot. (let end = end-at size first v l unit state is hot in (
+          end.0,
+          subst (λ (p : List LoggedPut). RollDue first v unit (undo_of unit p)) (sym (same-puts (unit_named name l.units)))
+              (roll-due first size v l unit state is end.1),
+        ))) (λ b. tt)
 item-due size first v l _ state is last = tt
 
+-- what is due of a keypoint
 pub key-due : (size : ℕ) (first : ℕ → Option (List ℕ)) (v : View) (p : Settings) (h : List Event) → State size first v → Ledgers size v.log v.start (ledger p h)
     → last_keypoint p h ≡ record { number = v.number; start = v.start } → keypoint_due p h ≡ true → KeyDue v (next_keypoint p h)
 key-due size first v p h state is last due =
     let l : Ledger = ledger p h in
-    let less : l.start < oldest l = grind (arith, common_steps, and-right (is_restarted h && nat_le (p.limits.log / 2) (l.next - l.start)) (nat_lt l.start (oldest l)) due) in
+    let less : l.start < oldest l = grind (
+      arith,
+      common_steps,
+      and-right (is_restarted h && nat_le (p.limits.log / 2) (l.next - l.start)) (nat_lt l.start (oldest l)) due,
+    ) in
     record {
       next = ap (λ (k : Keypoint). k.number + 1) last;
       later = omega (arith, less, is.begins);
@@ -140,6 +179,8 @@ key-due size first v p h state is last due =
       over = subst (λ (q : List LoggedPut). AreOver (least_number l.next q) v.log) (sym is.puts) (oldest-over v.log l.next);
     }
 
-pub items-due : (size : ℕ) (first : ℕ → Option (List ℕ)) (v : View) (p : Settings) (h : List Event) → State size first v → Ledgers size v.log v.start (ledger p h) → Last first v
+-- what is due of each item
+pub items-due : (size : ℕ) (first : ℕ → Option (List ℕ)) (v : View) (p : Settings) (h : List Event) → State size first v
+    → Ledgers size v.log v.start (ledger p h) → Last first v
     → (item : Item) → PlanDue size first v (λ u. rolled_left p u (Given item ∷ h)) (plan_of (ledger p h) item)
 items-due size first v p h state is last item = item-due size first v (ledger p h) item state is last

@@ -46,6 +46,7 @@ pub record Ended (s : Scen) (t : List Entry) (unit_now : List ℕ → Option Uni
   pub says : EndsAs (log t) unit_now item
   pub closed : OfEnd unit_now item (IsClosed s t)
 
+-- where an entry answers Done, its item has ended its unit so, as the later trace has it
 abbrev pub EndedBy : Scen → (later before : List Entry) → Entry → Site → Type 0
 EndedBy s later before e x =
     Where (is_in_full e.land && answers_done (answer_by s before x e.act)) (OfItem (item_at_hand s (e ∷ before) x) (Ended s later (open_unit s before x)))
@@ -57,9 +58,11 @@ where-same true false d f same is holds = tt
 where-same false true d f same is holds = absurd (cc)
 where-same false false d f same is holds = tt
 
+-- a fact of a log and a closed unit holds after an entry
 abbrev LaterOf : Scen → List Entry → Entry → (List LogRec → Option UnitId → Type 0) → Option UnitId → Type 0
 LaterOf s t e fact o = fact (log t) o → IfSome o (IsClosed s t) → fact (log (e ∷ t)) o × IfSome o (IsClosed s (e ∷ t))
 
+-- what was committed is
 commit-later : (s : Scen) (t : List Entry) (e : Entry) → Invariant s t → Step s t e → (o : Option UnitId) → LaterOf s t e StaysCommitted o
 commit-later s t e k step None says closed = absurd says
 commit-later s t e k step (Some unit) says closed =
@@ -68,10 +71,12 @@ commit-later s t e k step (Some unit) says closed =
       stays-closed s t e k step unit closed,
     )
 
+-- what was rolled is never committed
 roll-later : (s : Scen) (t : List Entry) (e : Entry) → Invariant s t → Step s t e → (o : Option UnitId) → LaterOf s t e IsNeverCommitted o
 roll-later s t e k step None says closed = absurd says
 roll-later s t e k step (Some unit) says closed = ((keeps s t e k step unit closed).committed ∙ says, stays-closed s t e k step unit closed)
 
+-- so the end of an item stays
 ended-later : (s : Scen) (t : List Entry) (e : Entry) → Invariant s t → Step s t e → (unit_now : List ℕ → Option UnitId) (item : Item)
     → Ended s t unit_now item → Ended s (e ∷ t) unit_now item
 ended-later s t e k step unit_now (items.Commit name) ended =
@@ -80,15 +85,18 @@ ended-later s t e k step unit_now (items.Roll name) ended =
     let later = roll-later s t e k step (unit_now name) ended.says ended.closed in record { says = later.0; closed = later.1 }
 ended-later s t e k step unit_now _ ended = record { says = tt; closed = tt }
 
+-- a fact of the item at hand that follows from another
 of-item-later : (o : Option Item) (fact later : Item → Type 0) → ((item : Item) → fact item → later item) → OfItem o fact → OfItem o later
 of-item-later None fact later on holds = holds
 of-item-later (Some item) fact later on holds = on item holds
 
+-- so what an earlier entry ended stays
 ended-by-later : (s : Scen) (t : List Entry) (e : Entry) → Invariant s t → Step s t e → (before : List Entry) (old : Entry) (x : Site)
     → EndedBy s t before old x → EndedBy s (e ∷ t) before old x
 ended-by-later s t e k step before old x =
     where-later (is_in_full old.land && answers_done (answer_by s before x old.act)) _ _
-    (of-item-later (item_at_hand s (old ∷ before) x) (Ended s t (open_unit s before x)) (Ended s (e ∷ t) (open_unit s before x)) (ended-later s t e k step (open_unit s before x)))
+    (of-item-later (item_at_hand s (old ∷ before) x) (Ended s t (open_unit s before x)) (Ended s (e ∷ t) (open_unit s before x))
+    (ended-later s t e k step (open_unit s before x)))
 
 -- an entry that ends a unit closes it
 other-shut : (s : Scen) (t : List Entry) (x : Site) (unit : UnitId) (job : Option (List Event))
@@ -96,35 +104,44 @@ other-shut : (s : Scen) (t : List Entry) (x : Site) (unit : UnitId) (job : Optio
 other-shut s t x unit None apart = tt
 other-shut s t x unit (Some g) apart = λ granted same. absurd (apart g refl granted same)
 
+-- its unit is closed at both sites
 closes : (s : Scen) (t : List Entry) (x : Site) (h : List Event) (a : Act) (unit : UnitId) → Invariant s t
     → hist s t x ≡ Some h → act_of s t x h (next (settings s x) h) ≡ Some a
     → ShutAt (settings s x) h (handed s t x (now t) h a ∷ h) unit → IsClosed s (made t x (inc_at a (Some h)) a land.Full ∷ t) unit
 closes s t x h a unit k job is shut =
     let b = before-next s t x h k job in
     let last : (control t).last ≤ (control_after a land.Full (control t)).last =
-    subst (λ (o : Option Act). IfSome o (λ c. (control t).last ≤ (control_after c land.Full (control t)).last)) is (last-after s t x h (next (settings s x) h) land.Full b) in
+    subst (λ (o : Option Act). IfSome o (λ c. (control t).last ≤ (control_after c land.Full (control t)).last)) is
+    (last-after s t x h (next (settings s x) h) land.Full b) in
     record {
       used = omega (arith, shut.own, (b.held shut.granted).given, last);
       jobs = sites-after s t x (inc_at a (Some h)) a land.Full (λ y. ShutFor (settings s y) unit)
           (subst (λ (o : Option (List Event)). OwnAfter s t x a land.Full o (ShutFor (settings s x) unit)) (sym job)
-          (full-after s t x h a (ShutFor (settings s x) unit) (is-own s t x h (next (settings s x) h) a is) (unless-gone a _ (λ granted same. (shut.restarted, shut.shut)))))
+          (full-after s t x h a (ShutFor (settings s x) unit) (is-own s t x h (next (settings s x) h) a is)
+          (unless-gone a _ (λ granted same. (shut.restarted, shut.shut)))))
           (own-other s t x h a (hist s t (other x)) is)
           (other-shut s t x unit (hist s t (other x)) (λ g there granted same. k.known.apart x h g job there shut.granted granted (sym shut.own ∙ sym same)));
     }
 
+-- a fact of a unit that follows from another
 if-closes : (o : Option UnitId) (fact later : UnitId → Type 0) → ((unit : UnitId) → fact unit → later unit) → IfSome o fact → IfSome o later
 if-closes None fact later on holds = tt
 if-closes (Some unit) fact later on holds = on unit holds
 
-end-closes : (unit_now : List ℕ → Option UnitId) (item : Item) (fact later : UnitId → Type 0) → ((unit : UnitId) → fact unit → later unit) → OfEnd unit_now item fact → OfEnd unit_now item later
+-- and of the unit that an item ends
+end-closes : (unit_now : List ℕ → Option UnitId) (item : Item) (fact later : UnitId → Type 0) → ((unit : UnitId) → fact unit → later unit)
+    → OfEnd unit_now item fact → OfEnd unit_now item later
 end-closes unit_now (items.Commit name) fact later on holds = if-closes (unit_now name) fact later on holds
 end-closes unit_now (items.Roll name) fact later on holds = if-closes (unit_now name) fact later on holds
 end-closes unit_now _ fact later on holds = tt
 
 -- by how the act lands
 abbrev EndsNow : Scen → List Entry → Site → List Event → Act → Land → Type 0
-EndsNow s t x h a l = Where (is_in_full l && answers_done (answer_by s t x a)) (OfItem (site_after s t x a l).item (Ended s (made t x (inc_at a (Some h)) a l ∷ t) (open_unit s t x)))
+EndsNow s t x h a l =
+    Where (is_in_full l && answers_done (answer_by s t x a))
+    (OfItem (site_after s t x a l).item (Ended s (made t x (inc_at a (Some h)) a l ∷ t) (open_unit s t x)))
 
+-- an act in full ends its unit so, and no other act answers
 ends-now : (s : Scen) (t : List Entry) (x : Site) (h : List Event) (a : Act) (l : Land) → Invariant s t → hist s t x ≡ Some h
     → act_of s t x h (next (settings s x) h) ≡ Some a → EndsNow s t x h a l
 ends-now s t x h a land.Lost k job is = tt
@@ -137,7 +154,9 @@ ends-now s t x h a land.Full k job is =
     (of-item-later (site_after s t x a land.Full).item _ _
     (λ item ends. record {
       says = ends.says;
-      closed = end-closes (open_unit s t x) item (ShutAt (settings s x) h (handed s t x (now t) h a ∷ h)) (IsClosed s (made t x (inc_at a (Some h)) a land.Full ∷ t)) (λ unit shut. closes s t x h a unit k job is shut) ends.shut;
+      closed =
+          end-closes (open_unit s t x) item (ShutAt (settings s x) h (handed s t x (now t) h a ∷ h))
+          (IsClosed s (made t x (inc_at a (Some h)) a land.Full ∷ t)) (λ unit shut. closes s t x h a unit k job is shut) ends.shut;
     }))
     means
 
@@ -145,14 +164,26 @@ ends-now s t x h a land.Full k job is =
 abbrev pub EndedHere : Scen → List Entry → Entry → Type 0
 EndedHere s t e = AtSite s t e.who (λ x h. EndedBy s (e ∷ t) t e x)
 
-entry-ends : (s : Scen) (t : List Entry) (x : Site) (h : List Event) (a : Act) (l : Land) → hist s t x ≡ Some h → EndsNow s t x h a l → EndedHere s t (made t x (inc_at a (Some h)) a l)
-entry-ends s t site.A h a l job ends = of-job (hist s t site.A) (λ g. EndedBy s (made t site.A (inc_at a (Some h)) a l ∷ t) t (made t site.A (inc_at a (Some h)) a l) site.A) (λ g e. ends)
-entry-ends s t site.B h a l job ends = of-job (hist s t site.B) (λ g. EndedBy s (made t site.B (inc_at a (Some h)) a l ∷ t) t (made t site.B (inc_at a (Some h)) a l) site.B) (λ g e. ends)
+-- an act of a job, seen from its site
+entry-ends : (s : Scen) (t : List Entry) (x : Site) (h : List Event) (a : Act) (l : Land) → hist s t x ≡ Some h → EndsNow s t x h a l
+    → EndedHere s t (made t x (inc_at a (Some h)) a l)
+entry-ends s t site.A h a l job ends =
+    of-job (hist s t site.A) (λ g. EndedBy s (made t site.A (inc_at a (Some h)) a l ∷ t) t (made t site.A (inc_at a (Some h)) a l) site.A)
+    (λ g e. ends)
+entry-ends s t site.B h a l job ends =
+    of-job (hist s t site.B) (λ g. EndedBy s (made t site.B (inc_at a (Some h)) a l ∷ t) t (made t site.B (inc_at a (Some h)) a l) site.B)
+    (λ g e. ends)
 
+-- an entry that answers nothing ends nothing
 none-ends : (s : Scen) (t : List Entry) (x : Site) (i : ℕ) (a : Act) (l : Land) → answers_done (answer_by s t x a) ≡ false → EndedHere s t (made t x i a l)
-none-ends s t site.A i a l none = of-job (hist s t site.A) (λ g. EndedBy s (made t site.A i a l ∷ t) t (made t site.A i a l) site.A) (λ g e. where-none (is_in_full l) (answers_done (answer_by s t site.A a)) _ none)
-none-ends s t site.B i a l none = of-job (hist s t site.B) (λ g. EndedBy s (made t site.B i a l ∷ t) t (made t site.B i a l) site.B) (λ g e. where-none (is_in_full l) (answers_done (answer_by s t site.B a)) _ none)
+none-ends s t site.A i a l none =
+    of-job (hist s t site.A) (λ g. EndedBy s (made t site.A i a l ∷ t) t (made t site.A i a l) site.A)
+    (λ g e. where-none (is_in_full l) (answers_done (answer_by s t site.A a)) _ none)
+none-ends s t site.B i a l none =
+    of-job (hist s t site.B) (λ g. EndedBy s (made t site.B i a l ∷ t) t (made t site.B i a l) site.B)
+    (λ g e. where-none (is_in_full l) (answers_done (answer_by s t site.B a)) _ none)
 
+-- a choice that reaches a job answers nothing
 quiet-none : (s : Scen) (t : List Entry) (x : Site) (a : Act) → is_quiet a ≡ true → answers_done (answer_by s t x a) ≡ false
 quiet-none s t x act.Abend quiet = refl
 quiet-none s t x (act.Reply go) quiet = refl
@@ -161,6 +192,7 @@ quiet-none s t x (act.Exit said) quiet = refl
 quiet-none s t x act.NoAct quiet = refl
 quiet-none s t x _ quiet = absurd (cc)
 
+-- of each kind of entry
 ended-kinds : (s : Scen) (t : List Entry) → Invariant s t → Kinds s t (λ e. EndedHere s t e)
 ended-kinds s t k = record {
   tick = tt;
@@ -172,6 +204,7 @@ ended-kinds s t k = record {
   standby = λ x. none-ends s t x 0 act.StartStandby land.Full refl;
 }
 
+-- of each entry
 pub ends-here : (s : Scen) (t : List Entry) (e : Entry) → Invariant s t → Step s t e → EndedHere s t e
 ends-here s t e k step = by_kind s t e (λ e. EndedHere s t e) step (ended-kinds s t k)
 

@@ -28,25 +28,31 @@ use Rattle.xrf_log_law.specs.Soundness.{is_sound}
 use Rattle.xrf_history.proofs.Tests.{not-both}
 use Rattle.xrf_history.specs.declared.want.Want.TheVariants as want
 
+-- a CTLWRITE is idle
 write-idle : (o : Option ControlRecord) → Idle (write_next o)
 write-idle None = refl
 write-idle (Some written) = refl
 
+-- so is an end
 end-idle : (o : Option EndWhy) → IfSome (end_next o) Idle
 end-idle None = tt
 end-idle (Some reason) = refl
 
+-- so is what comes after a MSGREAD
 message-idle : (k : ℕ) (slot : List ℕ) (o : Option Message) → IfSome (after_message_read k slot o) Idle
 message-idle k slot None = tt
 message-idle k slot (Some message) = choose Idle (gate_of slot == OPEN) _ _ (λ e. refl) (λ e. refl)
 
+-- so is what comes after a MSGCLOSE
 closed-idle : (k : ℕ) (o : Option Message) → IfSome (after_message_close k o) Idle
 closed-idle k None = tt
 closed-idle k (Some message) = refl
 
+-- what is next inside the sequence after an act is idle
 abbrev pub AfterIdle : Scen → List Entry → Site → List Event → Act → Type 0
 AfterIdle s t x h a = IfSome (inside (settings s x) (handed s t x (now t) h a ∷ h)) Idle
 
+-- after an idle act
 pub act-idle : (s : Scen) (t : List Entry) (x : Site) (h : List Event) (w : Want) → Idle w → IfSome (act_of s t x h w) (AfterIdle s t x h)
 act-idle s t x h want.Nothing idle = tt
 act-idle s t x h (want.Exit told) idle = tt
@@ -72,14 +78,18 @@ or_boundary-idle : (p : Settings) (h : List Event) (o : Option Want) → IfSome 
 or_boundary-idle p h None inner outer = outer
 or_boundary-idle p h (Some w) inner outer = inner
 
+-- an owner that is no active has signed off
 off-by : (owner off : Bool) → (owner && not off) ≡ false → owner ≡ true → off ≡ true
 off-by true true none is = refl
 off-by true false none is = absurd (cc)
 off-by false off none is = absurd (cc)
 
-pub next-idle : (p : Settings) (h : List Event) → (has_signed_off h ≡ true → is_some (sign_off_due h) ≡ true) → is_active h ≡ false → IfSome (inside p h) Idle → Idle (next p h)
+-- the next act of a job that is no active is idle
+pub next-idle : (p : Settings) (h : List Event) → (has_signed_off h ≡ true → is_some (sign_off_due h) ≡ true) → is_active h ≡ false
+    → IfSome (inside p h) Idle → Idle (next p h)
 next-idle p h off none inner =
-    or_boundary-idle p h (inside p h) inner (boundary-idle p h (λ owner not_due. none-not_some (sign_off_due h) not_due (off (off-by (is_owner h) (has_signed_off h) none owner))))
+    or_boundary-idle p h (inside p h) inner (boundary-idle p h
+    (λ owner not_due. none-not_some (sign_off_due h) not_due (off (off-by (is_owner h) (has_signed_off h) none owner))))
 
 -- nor does one after a failure
 pub unsound-idle : (p : Settings) (h : List Event) → is_sound h ≡ false → IfSome (inside p h) Idle → Idle (next p h)

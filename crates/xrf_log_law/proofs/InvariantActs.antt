@@ -63,15 +63,20 @@ use Rattle.xrf_trace.specs.declared.entry.Land.TheVariants as land
 abbrev pub Made : Scen → List Entry → Site → List Event → Act → Type 0
 Made s t x h a = SiteStands s t x (after s.settings.log a land.Full (view s t)) (handed s t x (now t) h a ∷ h)
 
-all-six : (P Q R S T U : Act → Type 0) (o : Option Act) → IfSome o P → IfSome o Q → IfSome o R → IfSome o S → IfSome o T → IfSome o U → IfSome o (λ a. P a × Q a × R a × S a × T a × U a)
+-- six facts of the act that is made
+all-six : (P Q R S T U : Act → Type 0) (o : Option Act) → IfSome o P → IfSome o Q → IfSome o R → IfSome o S → IfSome o T → IfSome o U
+    → IfSome o (λ a. P a × Q a × R a × S a × T a × U a)
 all-six P Q R S T U None p q r u w z = tt
 all-six P Q R S T U (Some a) p q r u w z = (p, q, r, u, w, z)
 
-pub made-stands : (s : Scen) (t : List Entry) (x : Site) (h : List Event) (w : Want) → Before s t x h w → (is_active h ≡ true → IfSome (act_of s t x h w) (After s t x h))
+-- the invariant of the job after an act in full
+pub made-stands : (s : Scen) (t : List Entry) (x : Site) (h : List Event) (w : Want) → Before s t x h w
+    → (is_active h ≡ true → IfSome (act_of s t x h w) (After s t x h))
     → IfSome (act_of s t x h w) (Made s t x h)
 made-stands s t x h w b after_act =
     all-six (ReadsAsOwner s t x h) (KnowsNone s t x h) (InRestart s t x h) (InSequence s t x h) (StaysIdle s t x h) (AtWorkAfter s t x h) (act_of s t x h w)
-    (read-after s t x h w b) (unread-after s t x h w b) (restart-after s t x h w b) (inside-after s t x h w after_act) (idle-after s t x h w b.rests) (work-stands s t x h w b)
+    (read-after s t x h w b) (unread-after s t x h w b) (restart-after s t x h w b) (inside-after s t x h w after_act) (idle-after s t x h w b.rests)
+    (work-stands s t x h w b)
 
 -- as the history has it: a job that ends is gone
 abbrev pub OwnStands : Scen → List Entry → Site → List Event → Land → Act → Type 0
@@ -88,46 +93,65 @@ unsound h message there none sound = by (is_owner h) (has_signed_off h) (is_soun
     by true false true false there none sound = absurd (cc)
     by false f d m there none sound = absurd (cc)
 
+-- the invariant of the job after an act that failed
 abbrev pub Failed : Scen → List Entry → Site → List Event → Landing → Want → Act → Type 0
 Failed s t x h cut w a = SiteStands s t x (after s.settings.log a (land.Fail cut) (view s t)) (ActFailed w (now t) ∷ h)
 
+-- in a restart
 abbrev FailedRestart : Scen → List Entry → Site → List Event → View → Want → Type 0
 FailedRestart s t x h v w = is_active h ≡ true → (is_sound h && (not (is_owner h) || is_on_message w)) ≡ true → has_read_block h ≡ true → is_restarted h ≡ false
     → Restarts s.settings.log (first_value s) v (restart_view (settings s x) (ActFailed w (now t) ∷ h))
 
-fail-unread : (s : Scen) (t : List Entry) (x : Site) (h : List Event) (w : Want) → Before s t x h w → has_read_block h ≡ false → IsUnread s.settings.log (settings s x) (ActFailed w (now t) ∷ h)
+-- a job that has read no block has read none after a failure
+fail-unread : (s : Scen) (t : List Entry) (x : Site) (h : List Event) (w : Want) → Before s t x h w → has_read_block h ≡ false
+    → IsUnread s.settings.log (settings s x) (ActFailed w (now t) ∷ h)
 fail-unread s t x h (want.LogOpen place rec) b = λ e. not-ended s x h (b.stands.1 e) (b.due.5 ((b.stands.1 e).3)).0
 fail-unread s t x h _ b = b.stands.1
 
+-- after a failure a restart stands, or the job is unsound
 fail-restart : (s : Scen) (t : List Entry) (x : Site) (h : List Event) (cut : Landing) (w : Want) → Before s t x h w
     → IfSome (act_of s t x h w) (λ a. FailedRestart s t x h (after s.settings.log a (land.Fail cut) (view s t)) w)
 fail-restart s t x h cut want.Nothing b = tt
 fail-restart s t x h cut (want.Exit told) b = tt
-fail-restart s t x h cut want.Item b = of-item s t x (λ a. FailedRestart s t x h (after s.settings.log a (land.Fail cut) (view s t)) want.Item) (λ there sound. unsound h false there refl sound)
+fail-restart s t x h cut want.Item b =
+    of-item s t x (λ a. FailedRestart s t x h (after s.settings.log a (land.Fail cut) (view s t)) want.Item)
+    (λ there sound. unsound h false there refl sound)
 fail-restart s t x h cut (want.MsgRead k) b = λ there sound read going. b.stands.2 there (and-left (is_sound h) _ sound) read going
 fail-restart s t x h cut (want.MsgClose k) b = λ there sound read going. b.stands.2 there (and-left (is_sound h) _ sound) read going
 fail-restart s t x h cut (want.MsgBody k message) b = λ there sound read going. b.stands.2 there (and-left (is_sound h) _ sound) read going
 fail-restart s t x h cut (want.MsgOpen k message) b = λ there sound read going. b.stands.2 there (and-left (is_sound h) _ sound) read going
 fail-restart s t x h cut _ b = λ there sound. unsound h false there refl sound
 
+-- at work
 abbrev FailedWork : Scen → List Entry → Site → List Event → View → Want → Type 0
 FailedWork s t x h v w = is_active h ≡ true → (is_sound h && (not (is_owner h) || is_on_message w)) ≡ true → is_restarted h ≡ true
     → Working s.settings.log (first_value s) v (settings s x) (ActFailed w (now t) ∷ h)
 
-fail-work : (s : Scen) (t : List Entry) (x : Site) (h : List Event) (cut : Landing) (w : Want) → Before s t x h w → IfSome (act_of s t x h w) (λ a. FailedWork s t x h (after s.settings.log a (land.Fail cut) (view s t)) w)
+-- after a failure the work stands, or the job is unsound
+fail-work : (s : Scen) (t : List Entry) (x : Site) (h : List Event) (cut : Landing) (w : Want) → Before s t x h w
+    → IfSome (act_of s t x h w) (λ a. FailedWork s t x h (after s.settings.log a (land.Fail cut) (view s t)) w)
 fail-work s t x h cut want.Nothing b = tt
 fail-work s t x h cut (want.Exit told) b = tt
-fail-work s t x h cut want.Item b = of-item s t x (λ a. FailedWork s t x h (after s.settings.log a (land.Fail cut) (view s t)) want.Item) (λ there sound. unsound h false there refl sound)
-fail-work s t x h cut (want.MsgRead n) b = λ there sound working. (let d = and-left (is_sound h) _ sound in let w = b.stands.5 there d working in (w.0, w.1, b.values there d working, tt))
-fail-work s t x h cut (want.MsgClose n) b = λ there sound working. (let d = and-left (is_sound h) _ sound in let w = b.stands.5 there d working in (w.0, w.1, b.values there d working, tt))
-fail-work s t x h cut (want.MsgBody n message) b = λ there sound working. (let d = and-left (is_sound h) _ sound in let w = b.stands.5 there d working in (w.0, w.1, b.values there d working, tt))
-fail-work s t x h cut (want.MsgOpen n message) b = λ there sound working. (let d = and-left (is_sound h) _ sound in let w = b.stands.5 there d working in (w.0, w.1, b.values there d working, tt))
+fail-work s t x h cut want.Item b =
+    of-item s t x (λ a. FailedWork s t x h (after s.settings.log a (land.Fail cut) (view s t)) want.Item)
+    (λ there sound. unsound h false there refl sound)
+fail-work s t x h cut (want.MsgRead n) b =
+    λ there sound working. (let d = and-left (is_sound h) _ sound in let w = b.stands.5 there d working in (w.0, w.1, b.values there d working, tt))
+fail-work s t x h cut (want.MsgClose n) b =
+    λ there sound working. (let d = and-left (is_sound h) _ sound in let w = b.stands.5 there d working in (w.0, w.1, b.values there d working, tt))
+fail-work s t x h cut (want.MsgBody n message) b =
+    λ there sound working. (let d = and-left (is_sound h) _ sound in let w = b.stands.5 there d working in (w.0, w.1, b.values there d working, tt))
+fail-work s t x h cut (want.MsgOpen n message) b =
+    λ there sound working. (let d = and-left (is_sound h) _ sound in let w = b.stands.5 there d working in (w.0, w.1, b.values there d working, tt))
 fail-work s t x h cut _ b = λ there sound. unsound h false there refl sound
 
-pub failed-stands : (s : Scen) (t : List Entry) (x : Site) (h : List Event) (cut : Landing) (w : Want) → Before s t x h w → IfSome (act_of s t x h w) (Failed s t x h cut w)
+-- so the invariant stands after a failure
+pub failed-stands : (s : Scen) (t : List Entry) (x : Site) (h : List Event) (cut : Landing) (w : Want) → Before s t x h w
+    → IfSome (act_of s t x h w) (Failed s t x h cut w)
 failed-stands s t x h cut w b = over (act_of s t x h w) (fail-restart s t x h cut w b) (fail-work s t x h cut w b)
   where
-    over : (o : Option Act) → IfSome o (λ a. FailedRestart s t x h (after s.settings.log a (land.Fail cut) (view s t)) w) → IfSome o (λ a. FailedWork s t x h (after s.settings.log a (land.Fail cut) (view s t)) w)
+    over : (o : Option Act) → IfSome o (λ a. FailedRestart s t x h (after s.settings.log a (land.Fail cut) (view s t)) w)
+        → IfSome o (λ a. FailedWork s t x h (after s.settings.log a (land.Fail cut) (view s t)) w)
         → IfSome o (Failed s t x h cut w)
     over None restart working = tt
     over (Some a) restart working = (b.stands.0, fail-unread s t x h w b, restart, λ there. tt, λ none. tt, working)
@@ -136,10 +160,15 @@ failed-stands s t x h cut w b = over (act_of s t x h w) (fail-restart s t x h cu
 abbrev pub OtherStands : Scen → List Entry → Site → Option (List Event) → Land → Act → Type 0
 OtherStands s t y job l a = IfSome (after_other a job) (SiteStands s t y (after s.settings.log a l (view s t)))
 
-silent-stands : (s : Scen) (t : List Entry) (y : Site) (g : List Event) (v : View) → (is_active g ≡ true → ⊥) → SiteStands s t y (view s t) g → SiteStands s t y v g
-silent-stands s t y g v silent stands = (stands.0, stands.1, λ there. absurd (silent there), λ there. absurd (silent there), stands.4, λ there. absurd (silent there))
+-- a job that is no active needs nothing of the data sets
+silent-stands : (s : Scen) (t : List Entry) (y : Site) (g : List Event) (v : View) → (is_active g ≡ true → ⊥) → SiteStands s t y (view s t) g
+    → SiteStands s t y v g
+silent-stands s t y g v silent stands =
+    (stands.0, stands.1, λ there. absurd (silent there), λ there. absurd (silent there), stands.4, λ there. absurd (silent there))
 
-other-acts : (s : Scen) (t : List Entry) (x y : Site) (h g : List Event) (w : Want) (l : Land) → (writes_data w ≡ true → is_active g ≡ true → ⊥) → SiteStands s t y (view s t) g
+-- whatever this job writes, the other stands
+other-acts : (s : Scen) (t : List Entry) (x y : Site) (h g : List Event) (w : Want) (l : Land) → (writes_data w ≡ true → is_active g ≡ true → ⊥)
+    → SiteStands s t y (view s t) g
     → IfSome (act_of s t x h w) (OtherStands s t y (Some g) l)
 other-acts s t x y h g (want.LogClose place) l silent stands = silent-stands s t y g _ (silent refl) stands
 other-acts s t x y h g (want.LogBody place rec) l silent stands = silent-stands s t y g _ (silent refl) stands
@@ -154,19 +183,24 @@ other-acts s t x y h g (want.Exit told) l silent stands = tt
 other-acts s t x y h g want.Item l silent stands = of-item s t x (OtherStands s t y (Some g) l) stands
 other-acts s t x y h g _ l silent stands = stands
 
+-- where no other job is
 no-other : (s : Scen) (t : List Entry) (x y : Site) (h : List Event) (w : Want) (l : Land) → IfSome (act_of s t x h w) (OtherStands s t y None l)
 no-other s t x y h want.Nothing l = tt
 no-other s t x y h (want.Exit told) l = tt
 no-other s t x y h want.Item l = of-item s t x (OtherStands s t y None l) tt
 no-other s t x y h _ l = tt
 
-other-stands : (s : Scen) (t : List Entry) (x : Site) (h : List Event) (w : Want) (l : Land) (job : Option (List Event)) → hist s t x ≡ Some h → hist s t (other x) ≡ job → IsKnown s t
-    → (writes_data w ≡ true → is_active h ≡ true) → IfSome job (SiteStands s t (other x) (view s t)) → IfSome (act_of s t x h w) (OtherStands s t (other x) job l)
+-- two jobs are not both the running owner
+other-stands : (s : Scen) (t : List Entry) (x : Site) (h : List Event) (w : Want) (l : Land) (job : Option (List Event)) → hist s t x ≡ Some h
+    → hist s t (other x) ≡ job → IsKnown s t
+    → (writes_data w ≡ true → is_active h ≡ true) → IfSome job (SiteStands s t (other x) (view s t))
+    → IfSome (act_of s t x h w) (OtherStands s t (other x) job l)
 other-stands s t x h w l None own none owned acts stands = no-other s t x (other x) h w l
 other-stands s t x h w l (Some g) own theirs owned acts stands =
     other-acts s t x (other x) h g w l
     (λ e there. one_owner x (number h) (number g) (sym (owned.active x h own (acts e)) ∙ owned.active (other x) g theirs there)) stands
 
+-- an act that writes the data sets is not idle
 data-acts : (w : Want) → writes_data w ≡ true → is_idle w ≡ false
 data-acts (want.LogClose place) e = refl
 data-acts (want.LogBody place rec) e = refl
@@ -182,7 +216,9 @@ data-acts _ e = absurd (cc)
 abbrev pub JobsStand : Scen → List Entry → Site → Option (List Event) → Land → Act → Type 0
 JobsStand s t x job l a = IfSome (after_own s t x (now t) a l job) (SiteStands s t x (after s.settings.log a l (view s t)))
 
-pub sites-stand : (s : Scen) (t : List Entry) (x : Site) (i : ℕ) (a : Act) (l : Land) → key_number t ≤ length t → key_after a l (key_number t) ≤ key_number t + 1 → Lands s t l a → JobsStand s t x (hist s t x) l a
+-- so the invariant stands after an entry of a site
+pub sites-stand : (s : Scen) (t : List Entry) (x : Site) (i : ℕ) (a : Act) (l : Land) → key_number t ≤ length t
+    → key_after a l (key_number t) ≤ key_number t + 1 → Lands s t l a → JobsStand s t x (hist s t x) l a
     → OtherStands s t (other x) (hist s t (other x)) l a → Stands s (made t x i a l ∷ t)
 sites-stand s t x i a l counted count lands own others = record { state = lands; counted = omega (arith, counted, count); jobs = by x own others }
   where
@@ -194,19 +230,24 @@ sites-stand s t x i a l counted count lands own others = record { state = lands;
     by site.B own others site.B = own
 
 -- what is known before the next act
-or_boundary-due : (p : Settings) (first : ℕ → Option (List ℕ)) (v : View) (h : List Event) (o : Option Want) → IfSome o (Due p.limits.log first v (job_view p h))
+or_boundary-due : (p : Settings) (first : ℕ → Option (List ℕ)) (v : View) (h : List Event) (o : Option Want)
+    → IfSome o (Due p.limits.log first v (job_view p h))
     → Due p.limits.log first v (job_view p h) (boundary p h) → Due p.limits.log first v (job_view p h) (or_boundary p h o)
 or_boundary-due p first v h None inner outer = outer
 or_boundary-due p first v h (Some w) inner outer = inner
 
-ended-reads : (s : Scen) (x : Site) (h : List Event) → (has_read_block h ≡ false → IsUnread s.settings.log (settings s x) h) → (scan (settings s x) h).ended ≡ true → has_read_block h ≡ true
+-- a scan that has ended has read a block
+ended-reads : (s : Scen) (x : Site) (h : List Event) → (has_read_block h ≡ false → IsUnread s.settings.log (settings s x) h)
+    → (scan (settings s x) h).ended ≡ true → has_read_block h ≡ true
 ended-reads s x h unread ended = by (has_read_block h) refl
   where
     by : (b : Bool) → has_read_block h ≡ b → b ≡ true
     by true e = refl
     by false e = not-ended s x h (unread e) ended
 
-pub writer-due : (s : Scen) (t : List Entry) (x : Site) (h : List Event) → State s.settings.log (first_value s) (view s t) → SiteStands s t x (view s t) h → is_active h ≡ true
+-- what is due of the next act of an active
+pub writer-due : (s : Scen) (t : List Entry) (x : Site) (h : List Event) → State s.settings.log (first_value s) (view s t)
+    → SiteStands s t x (view s t) h → is_active h ≡ true
     → Due s.settings.log (first_value s) (view s t) (job_view (settings s x) h) (next (settings s x) h)
 writer-due s t x h state stands there =
     or_boundary-due (settings s x) (first_value s) (view s t) h (inside (settings s x) h) (stands.3 there)
@@ -214,11 +255,14 @@ writer-due s t x h state stands there =
     (λ owner none. record {
       sound = sound-by h none;
       restart = λ going ended. (stands.2 there (sound-by h none) (ended-reads s x h stands.1 ended) going).undoing ended;
-      work = λ restarted due. (let w = stands.5 there (sound-by h none) restarted in key-due s.settings.log (first_value s) (view s t) (settings s x) h state w.0 w.1 due);
+      work =
+          λ restarted due. (let w = stands.5 there (sound-by h none) restarted in key-due s.settings.log (first_value s) (view s t)
+          (settings s x) h state w.0 w.1 due);
     }))
 
 -- what an ITEM is given
-item-gives : (T : Type 0) (first : ℕ → Option (List ℕ)) (v : View) (plan : Plan) (w : Want) (P : Type 0) → (P → LastAt first v plan w) → (P → Last first v → T) → ItemGives w (P → T)
+item-gives : (T : Type 0) (first : ℕ → Option (List ℕ)) (v : View) (plan : Plan) (w : Want) (P : Type 0) → (P → LastAt first v plan w)
+    → (P → Last first v → T) → ItemGives w (P → T)
 item-gives T first v plan want.Item P last gives = λ e. gives e (last e)
 item-gives T first v plan _ P last gives = tt
 
@@ -275,9 +319,11 @@ next-after : (s : Scen) (t : List Entry) (x : Site) (h : List Event) → Before 
     → IfSome (act_of s t x h (next (settings s x) h)) (After s t x h)
 next-after s t x h b there =
     act-after s t x h (next (settings s x) h) b.state b.due
-    (in_range s t x h s.settings.log (first_value s) (job_view (settings s x) h) (next (settings s x) h) b.due b.few b.counted (in-range s t x h (next (settings s x) h) b))
+    (in_range s t x h s.settings.log (first_value s) (job_view (settings s x) h) (next (settings s x) h) b.due b.few b.counted
+    (in-range s t x h (next (settings s x) h) b))
     (b.stands.3 there)
-    (item-gives (ItemsDue s t x h) (first_value s) (view s t) (last_plan (settings s x) h) (next (settings s x) h) ((is_restarted h ≡ true) × (is_sound h ≡ true))
+    (item-gives (ItemsDue s t x h) (first_value s) (view s t) (last_plan (settings s x) h) (next (settings s x) h)
+    ((is_restarted h ≡ true) × (is_sound h ≡ true))
     (λ at. b.values there at.1 at.0)
     (λ at last. items-due s.settings.log (first_value s) (view s t) (settings s x) h b.state (b.stands.5 there at.1 at.0).0 last))
 
@@ -285,6 +331,7 @@ next-after s t x h b there =
 pub book-at : (s : Scen) (t : List Entry) → ((r : ℕ) → image s t r ≡ booked (first_value s) (view s t) r) → IsBookAt s t
 book-at s t same r from to = same r ∙ ap slot_of (value_by-units t r (committed (log t)) (first_value s r))
 
+-- at a RESTARTED
 restart-book : (s : Scen) (t : List Entry) (x : Site) (h : List Event) (w : Want) → Due s.settings.log (first_value s) (view s t) (job_view (settings s x) h) w
     → IfSome (act_of s t x h w) (λ a. Where (is_restart a) (IsBook s t × (flight (log t) ≡ [])))
 restart-book s t x h want.Nothing due = tt
@@ -299,14 +346,17 @@ pub record Kept (s : Scen) (t : List Entry) (e : Entry) : Type 0 where
   pub book : RestartsAtBook s t e
 
 -- the job of an act, by how the act lands
-own-made : (s : Scen) (t : List Entry) (x : Site) (h : List Event) → Before s t x h (next (settings s x) h) → IfSome (act_of s t x h (next (settings s x) h)) (Made s t x h)
+own-made : (s : Scen) (t : List Entry) (x : Site) (h : List Event) → Before s t x h (next (settings s x) h)
+    → IfSome (act_of s t x h (next (settings s x) h)) (Made s t x h)
 own-made s t x h b = made-stands s t x h (next (settings s x) h) b (next-after s t x h b)
 
 -- a signal that is lost
 abbrev Lost : Scen → List Entry → Site → List Event → Act → Type 0
 Lost s t x h a = is_signal a ≡ true → SiteStands s t x (after s.settings.log a land.Lost (view s t)) (handed s t x (now t) h a ∷ h)
 
-lost-stands : (s : Scen) (t : List Entry) (x : Site) (h : List Event) (w : Want) → IfSome (act_of s t x h w) (Made s t x h) → IfSome (act_of s t x h w) (Lost s t x h)
+-- after a signal that is lost
+lost-stands : (s : Scen) (t : List Entry) (x : Site) (h : List Event) (w : Want) → IfSome (act_of s t x h w) (Made s t x h)
+    → IfSome (act_of s t x h w) (Lost s t x h)
 lost-stands s t x h (want.Signal1 signal) stands = λ e. stands
 lost-stands s t x h (want.Signal2 signal) stands = λ e. stands
 lost-stands s t x h want.Nothing stands = tt
@@ -314,6 +364,7 @@ lost-stands s t x h (want.Exit told) stands = tt
 lost-stands s t x h want.Item stands = of-item s t x (Lost s t x h) (λ e. absurd (cc))
 lost-stands s t x h _ stands = λ e. absurd (cc)
 
+-- by how the act lands
 own-stands : (s : Scen) (t : List Entry) (x : Site) (h : List Event) (a : Act) (l : Land) → act_of s t x h (next (settings s x) h) ≡ Some a → MayLand l a
     → Before s t x h (next (settings s x) h) → OwnStands s t x h l a
 own-stands s t x h a land.Full is may b =
@@ -328,19 +379,23 @@ own-stands s t x h a (land.Fail cut) is may b =
     (subst (λ (o : Option Act). IfSome o (Failed s t x h cut (next (settings s x) h))) is (failed-stands s t x h cut (next (settings s x) h) b))
 
 -- an act of a job keeps the invariant
-pub act-step : (s : Scen) (t : List Entry) (x : Site) (h : List Event) (l : Land) (a : Act) → act_of s t x h (next (settings s x) h) ≡ Some a → hist s t x ≡ Some h
+pub act-step : (s : Scen) (t : List Entry) (x : Site) (h : List Event) (l : Land) (a : Act) → act_of s t x h (next (settings s x) h) ≡ Some a
+    → hist s t x ≡ Some h
     → LandFits l a → MayLand l a → Invariant s t → Kept s t (made t x (inc_at a (Some h)) a l)
 act-step s t x h l a is job fits may k =
     let w : Want = next (settings s x) h in
     let b = before-next s t x h k job in
     let ranged : InRange a = subst (λ (o : Option Act). IfSome o InRange) is (in-range s t x h w b) in
     let sized : IfSome (act_of s t x h w) (IsSized l) = subst (λ (o : Option Act). IfSome o (IsSized l)) (sym is) (sized_of l a ranged fits) in
-    let lands : IfSome (act_of s t x h w) (Lands s t l) = act-state s t x h (job_view (settings s x) h) w l (log-some (limits s) k.scen.limits) k.stands.state (λ e. b.due) sized in
+    let lands : IfSome (act_of s t x h w) (Lands s t l) = act-state s t x h (job_view (settings s x) h) w l
+    (log-some (limits s) k.scen.limits) k.stands.state (λ e. b.due) sized in
     let others : IfSome (act_of s t x h w) (OtherStands s t (other x) (hist s t (other x)) l) =
     other-stands s t x h w l (hist s t (other x)) job refl k.known (λ e. b.acts (data-acts w e)) (k.stands.jobs (other x)) in
     record {
       stands =
-          sites-stand s t x (inc_at a (Some h)) a l k.stands.counted (subst (λ (o : Option Act). IfSome o (λ b. key_after b l (key_number t) ≤ key_number t + 1)) is (key-count s t x h s.settings.log (first_value s) (job_view (settings s x) h) w l b.due))
+          sites-stand s t x (inc_at a (Some h)) a l k.stands.counted
+          (subst (λ (o : Option Act). IfSome o (λ b. key_after b l (key_number t) ≤ key_number t + 1)) is
+          (key-count s t x h s.settings.log (first_value s) (job_view (settings s x) h) w l b.due))
           (subst (λ (o : Option Act). IfSome o (Lands s t l)) is lands)
           (subst (λ (o : Option (List Event)). JobsStand s t x o l a) (sym job) (own-stands s t x h a l is may b))
           (subst (λ (o : Option Act). IfSome o (OtherStands s t (other x) (hist s t (other x)) l)) is others);

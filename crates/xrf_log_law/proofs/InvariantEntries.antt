@@ -54,22 +54,41 @@ quiet-stands s t x (act.Exit said) (Some h) quiet stands = stands
 quiet-stands s t x act.NoAct (Some h) quiet stands = stands
 quiet-stands s t x _ (Some h) quiet stands = absurd (cc)
 
+-- a choice that reaches a job keeps the invariant
 quiet-step : (s : Scen) (t : List Entry) (x : Site) (i : ℕ) (a : Act) → is_quiet a ≡ true → Stands s t → Kept s t (made t x i a land.Full)
-quiet-step s t x i a quiet stands = by a quiet (quiet-after s t x a (hist s t x) (SiteStands s t x (view s t)) quiet (quiet-stands s t x a (hist s t x) quiet (stands.jobs x)))
+quiet-step s t x i a quiet stands =
+    by a quiet (quiet-after s t x a (hist s t x) (SiteStands s t x (view s t)) quiet (quiet-stands s t x a (hist s t x) quiet (stands.jobs x)))
   where
     by : (a : Act) → is_quiet a ≡ true → OwnAfter s t x a land.Full (hist s t x) (SiteStands s t x (view s t)) → Kept s t (made t x i a land.Full)
-    by act.Abend quiet own = record { stands = sites-stand s t x i act.Abend land.Full stands.counted (omega arith) stands.state own (stands.jobs (other x)); book = tt }
-    by (act.Reply go) quiet own = record { stands = sites-stand s t x i (act.Reply go) land.Full stands.counted (omega arith) stands.state own (stands.jobs (other x)); book = tt }
+    by act.Abend quiet own =
+        record { stands = sites-stand s t x i act.Abend land.Full stands.counted (omega arith) stands.state own (stands.jobs (other x)); book = tt }
+    by (act.Reply go) quiet own =
+        record {
+          stands = sites-stand s t x i (act.Reply go) land.Full stands.counted (omega arith) stands.state own
+              (stands.jobs (other x));
+          book = tt;
+        }
     by (act.Cebt command reply) quiet own =
-        record { stands = sites-stand s t x i (act.Cebt command reply) land.Full stands.counted (omega arith) stands.state own (stands.jobs (other x)); book = tt }
-    by (act.Exit said) quiet own = record { stands = sites-stand s t x i (act.Exit said) land.Full stands.counted (omega arith) stands.state own (stands.jobs (other x)); book = tt }
-    by act.NoAct quiet own = record { stands = sites-stand s t x i act.NoAct land.Full stands.counted (omega arith) stands.state own (stands.jobs (other x)); book = tt }
+        record {
+          stands = sites-stand s t x i (act.Cebt command reply) land.Full stands.counted (omega arith) stands.state own
+              (stands.jobs (other x));
+          book = tt;
+        }
+    by (act.Exit said) quiet own =
+        record {
+          stands = sites-stand s t x i (act.Exit said) land.Full stands.counted (omega arith) stands.state own
+              (stands.jobs (other x));
+          book = tt;
+        }
+    by act.NoAct quiet own =
+        record { stands = sites-stand s t x i act.NoAct land.Full stands.counted (omega arith) stands.state own (stands.jobs (other x)); book = tt }
     by _ quiet own = absurd (cc)
 
 -- a START
 started_active : (s : Scen) (t : List Entry) (x : Site) → SiteStands s t x (view s t) (StartedActive ∷ [])
 started_active s t x = (λ e. false-true e, λ e. (refl, refl, λ unit. refl, refl), λ e. false-true e, λ e. tt, λ e. refl, λ e. false-true e)
 
+-- a job that starts as standby
 started_standby : (s : Scen) (t : List Entry) (x : Site) → SiteStands s t x (view s t) (StartedStandby ∷ [])
 started_standby s t x = (λ e. false-true e, λ e. (refl, refl, λ unit. refl, refl), λ e. false-true e, λ e. tt, λ e. refl, λ e. false-true e)
 
@@ -81,8 +100,18 @@ kept-kinds s t k = record {
   acts = λ x h a l job is fits may. act-step s t x h l a is job fits may k;
   quiet = λ x i a quiet. quiet-step s t x i a quiet k.stands;
   stop = λ x i cut. stop-none s t x i cut k.stands;
-  active = λ x. record { stands = sites-stand s t x 0 act.StartActive land.Full k.stands.counted (omega arith) k.stands.state (started_active s t x) (k.stands.jobs (other x)); book = tt };
-  standby = λ x. record { stands = sites-stand s t x 0 act.StartStandby land.Full k.stands.counted (omega arith) k.stands.state (started_standby s t x) (k.stands.jobs (other x)); book = tt };
+  active =
+      λ x. record {
+        stands = sites-stand s t x 0 act.StartActive land.Full k.stands.counted (omega arith) k.stands.state (started_active s t x)
+            (k.stands.jobs (other x));
+        book = tt;
+      };
+  standby =
+      λ x. record {
+        stands = sites-stand s t x 0 act.StartStandby land.Full k.stands.counted (omega arith) k.stands.state (started_standby s t x)
+            (k.stands.jobs (other x));
+        book = tt;
+      };
 }
 
 -- nothing is there at first
@@ -100,5 +129,6 @@ first-state s = record {
   unput = λ unit r e f x. refl;
 }
 
+-- at first
 pub first-holds : (s : Scen) → Stands s []
 first-holds s = record { state = first-state s; counted = omega arith; jobs = λ x. tt }

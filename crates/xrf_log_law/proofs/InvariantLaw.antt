@@ -18,6 +18,7 @@ use Rattle.xrf_log_law.proofs.ServingEntries.{serve-kinds}
 use Rattle.xrf_log_law.proofs.InvariantActs.{Kept}
 use Rattle.xrf_log_law.proofs.ConditionEntries.{EntryConditions, go-kinds}
 use Rattle.xrf_trace.proofs.ScenarioLaws.{IsInRanges}
+
 -- each entry keeps it
 kept : (s : Scen) (t : List Entry) (e : Entry) → IsRun s (e ∷ t) → length (e ∷ t) ≤ 8192 → Invariant s t → Step s t e → Invariant s (e ∷ t)
 kept s t e is few k step = record {
@@ -60,12 +61,14 @@ each-part fact part [] on all = tt
 each-part fact part (e ∷ t) on all = (each-part fact part t on all.0, on t e all.1)
 
 -- each end of a unit, as it is in the last log
-pub all-ended : (s : Scen) (t : List Entry) → IsInRanges s → IsRun s t → length t ≤ 8192 → Each (λ before e. AtSite s before e.who (λ x h. EndedBy s t before e x)) t
+pub all-ended : (s : Scen) (t : List Entry) → IsInRanges s → IsRun s t → length t ≤ 8192
+    → Each (λ before e. AtSite s before e.who (λ x h. EndedBy s t before e x)) t
 all-ended s [] scen is few = tt
 all-ended s (e ∷ t) scen is few =
     let k = always s t scen is.0 (omega (arith, few)) in
     let step = run-step s t e is in (
-      each-part (λ before old. AtSite s before old.who (λ x h. EndedBy s t before old x)) (λ before old. AtSite s before old.who (λ x h. EndedBy s (e ∷ t) before old x)) t
+      each-part (λ before old. AtSite s before old.who (λ x h. EndedBy s t before old x))
+          (λ before old. AtSite s before old.who (λ x h. EndedBy s (e ∷ t) before old x)) t
           (ends-still s t e k step) (all-ended s t scen is.0 (omega (arith, few))),
       ends-here s t e k step,
     )

@@ -54,6 +54,7 @@ of-item s t x P holds = by (nat_lt (items_taken t x) (length (work s x)))
 abbrev pub ReadsAsOwner : Scen → List Entry → Site → List Event → Act → Type 0
 ReadsAsOwner s t x h a = has_read_block (handed s t x (now t) h a ∷ h) ≡ true → is_owner (handed s t x (now t) h a ∷ h) ≡ true
 
+-- after each act
 pub read-after : (s : Scen) (t : List Entry) (x : Site) (h : List Event) (w : Want) → Before s t x h w → IfSome (act_of s t x h w) (ReadsAsOwner s t x h)
 read-after s t x h want.Nothing b = tt
 read-after s t x h (want.Exit told) b = tt
@@ -74,15 +75,18 @@ read-after s t x h _ b = b.stands.0
 abbrev pub KnowsNone : Scen → List Entry → Site → List Event → Act → Type 0
 KnowsNone s t x h a = has_read_block (handed s t x (now t) h a ∷ h) ≡ false → IsUnread s.settings.log (settings s x) (handed s t x (now t) h a ∷ h)
 
+-- a job that has read no block has no scan that ended
 pub not-ended : {P : Type 0} (s : Scen) (x : Site) (h : List Event) → IsUnread s.settings.log (settings s x) h → (scan (settings s x) h).ended ≡ true → P
 not-ended s x h unread ended = no-clash (scan (settings s x) h).ended ended (ap (λ (found : Scanned). found.ended) unread.0)
 
+-- after each act
 pub unread-after : (s : Scen) (t : List Entry) (x : Site) (h : List Event) (w : Want) → Before s t x h w → IfSome (act_of s t x h w) (KnowsNone s t x h)
 unread-after s t x h want.Nothing b = tt
 unread-after s t x h (want.Exit told) b = tt
 unread-after s t x h (want.LogRead n) b = by (has_read_block h) refl
   where
-    by : (has : Bool) → has_read_block h ≡ has → has_read_block (block_event s t n has ∷ h) ≡ false → IsUnread s.settings.log (settings s x) (block_event s t n has ∷ h)
+    by : (has : Bool) → has_read_block h ≡ has → has_read_block (block_event s t n has ∷ h) ≡ false
+        → IsUnread s.settings.log (settings s x) (block_event s t n has ∷ h)
     by true is e = no-clash (has_read_block h) is e
     by false is e = absurd (cc)
 unread-after s t x h (want.LogOpen place rec) b = λ e. not-ended s x h (b.stands.1 e) (b.due.5 ((b.stands.1 e).3)).0
@@ -96,83 +100,123 @@ unread-after s t x h _ b = b.stands.1
 
 -- it is in its restart
 abbrev pub KnowsRestart : Scen → List Entry → Site → List Event → View → List Event → Type 0
-KnowsRestart s t x h v now_h = is_active now_h ≡ true → is_sound now_h ≡ true → has_read_block now_h ≡ true → is_restarted now_h ≡ false → Restarts s.settings.log (first_value s) v (restart_view (settings s x) now_h)
+KnowsRestart s t x h v now_h =
+    is_active now_h ≡ true → is_sound now_h ≡ true → has_read_block now_h ≡ true → is_restarted now_h ≡ false
+    → Restarts s.settings.log (first_value s) v (restart_view (settings s x) now_h)
 
+-- after an act in full
 abbrev pub InRestart : Scen → List Entry → Site → List Event → Act → Type 0
 InRestart s t x h a = KnowsRestart s t x h (after s.settings.log a land.Full (view s t)) (handed s t x (now t) h a ∷ h)
 
+-- no records are a part of the log
 pub no-records : (size : ℕ) (first : ℕ → Option (List ℕ)) (v : View) → State size first v → IsPart v.log v.start []
 no-records size first v state = record { within = omega (arith, state.within); same = λ j less. absurd (omega arith) }
 
-next-block : (p : Settings) (first : ℕ → Option (List ℕ)) (v : View) (h : List Event) (block : List ℕ) → 0 < p.limits.log → p.limits.log % 64 ≡ 0 → State p.limits.log first v
+-- a further block
+next-block : (p : Settings) (first : ℕ → Option (List ℕ)) (v : View) (h : List Event) (block : List ℕ) → 0 < p.limits.log → p.limits.log % 64 ≡ 0
+    → State p.limits.log first v
     → Restarts p.limits.log first v (restart_view p h) → (scan p h).ended ≡ false
     → block ≡ flat_map (λ i. bytes_of (v.slot i)) (range_with_len (64 * (scan p h).block) 64)
     → Restarts p.limits.log first v (restart_view p (BlockRead block ∷ h))
 next-block p first v h block some even state restarts going are =
     let scans = restarts.scanning going in
     subst (λ (last : Keypoint). Restarts p.limits.log first v
-    (record { scan = after_block (scan p h) block; last = last; opened = records_opened h; backout = λ unit. has_backout unit h; undone = 0 })) (sym restarts.keypoint)
-    (scanned-restarts p.limits.log first v (scan p h) block (records_opened h) (λ unit. has_backout unit h) some even state restarts.slots scans.anchor scans.part scans.opened scans.backouts are)
+    (record { scan = after_block (scan p h) block; last = last; opened = records_opened h; backout = λ unit. has_backout unit h; undone = 0 }))
+    (sym restarts.keypoint)
+    (scanned-restarts p.limits.log first v (scan p h) block (records_opened h)
+    (λ unit. has_backout unit h) some even state restarts.slots scans.anchor scans.part scans.opened scans.backouts are)
 
-first-block : (p : Settings) (first : ℕ → Option (List ℕ)) (v : View) (h : List Event) (block keys : List ℕ) → 0 < p.limits.log → p.limits.log % 64 ≡ 0 → State p.limits.log first v
+-- the first block, with the KEY slots
+first-block : (p : Settings) (first : ℕ → Option (List ℕ)) (v : View) (h : List Event) (block keys : List ℕ) → 0 < p.limits.log
+    → p.limits.log % 64 ≡ 0 → State p.limits.log first v
     → IsUnread p.limits.log p h → keys ≡ bytes_of (v.key 0) ++ bytes_of (v.key 1)
     → block ≡ flat_map (λ i. bytes_of (v.slot i)) (range_with_len (64 * (scan p h).block) 64)
     → Restarts p.limits.log first v (restart_view p (FirstBlockRead block keys ∷ h))
 first-block p first v h block keys some even state unread are_keys are =
-    let is_anchor : anchor_of keys ≡ record { number = v.number; start = v.start } = ap anchor_of are_keys ∙ anchor v.number v.start v.key state.keys_whole state.keys in
+    let is_anchor : anchor_of keys ≡ record { number = v.number; start = v.start } = ap anchor_of are_keys
+    ∙ anchor v.number v.start v.key state.keys_whole state.keys in
     let none : [] ≡ (scan p h).records = sym (ap (λ (found : Scanned). found.records) unread.0) in
     subst (λ (last : Keypoint). Restarts p.limits.log first v
-    (record { scan = after_block (after_anchors (scan p h) keys) block; last = last; opened = records_opened h; backout = λ unit. has_backout unit h; undone = 0 })) (sym is_anchor)
+    (record {
+      scan = after_block
+          (after_anchors (scan p h) keys) block;
+      last = last;
+      opened = records_opened h;
+      backout = λ unit. has_backout unit h;
+      undone = 0;
+    }))
+    (sym is_anchor)
     (scanned-restarts p.limits.log first v (after_anchors (scan p h) keys) block (records_opened h) (λ unit. has_backout unit h) some even state
-    (ap (λ (found : Scanned). found.slots) unread.0) (ap (λ (k : Keypoint). k.start) is_anchor) (subst (IsPart v.log v.start) none (no-records p.limits.log first v state)) unread.1 unread.2 are)
+    (ap (λ (found : Scanned). found.slots) unread.0) (ap (λ (k : Keypoint). k.start) is_anchor)
+    (subst (IsPart v.log v.start) none (no-records p.limits.log first v state)) unread.1 unread.2 are)
 
-block-restart : (s : Scen) (t : List Entry) (x : Site) (h : List Event) (b : ℕ) (has : Bool) → AreLimits (limits s) → State s.settings.log (first_value s) (view s t) → has_read_block h ≡ has
-    → (has_read_block h ≡ false → IsUnread s.settings.log (settings s x) h) → (has_read_block h ≡ true → Restarts s.settings.log (first_value s) (view s t) (restart_view (settings s x) h))
+-- so each LOGREAD leaves a scan of the log
+block-restart : (s : Scen) (t : List Entry) (x : Site) (h : List Event) (b : ℕ) (has : Bool) → AreLimits (limits s)
+    → State s.settings.log (first_value s) (view s t) → has_read_block h ≡ has
+    → (has_read_block h ≡ false → IsUnread s.settings.log (settings s x) h)
+    → (has_read_block h ≡ true → Restarts s.settings.log (first_value s) (view s t) (restart_view (settings s x) h))
     → (scan (settings s x) h).ended ≡ false → b ≡ (scan (settings s x) h).block
     → Restarts s.settings.log (first_value s) (view s t) (restart_view (settings s x) (block_event s t b has ∷ h))
 block-restart s t x h b true log state is unread before going place =
-    next-block (settings s x) (first_value s) (view s t) h (log_block s t b) (log-some (limits s) log) log.log_blocks state (before is) going (ap (log_block s t) place)
+    next-block (settings s x) (first_value s) (view s t) h (log_block s t b) (log-some (limits s) log) log.log_blocks state (before is) going
+    (ap (log_block s t) place)
 block-restart s t x h b false log state is unread before going place =
-    first-block (settings s x) (first_value s) (view s t) h (log_block s t b) (key_slots t) (log-some (limits s) log) log.log_blocks state (unread is) refl (ap (log_block s t) place)
+    first-block (settings s x) (first_value s) (view s t) h (log_block s t b) (key_slots t) (log-some (limits s) log) log.log_blocks state
+    (unread is) refl (ap (log_block s t) place)
 
 -- the record that a restart opens is the Backout that is next
 open-restart : (s : Scen) (t : List Entry) (x : Site) (h : List Event) (place : ℕ) (rec : LogRec) (left : List UnitId) → (record_of_restart left) ≡ Some rec
-    → (scan (settings s x) h).ended ≡ true → rows_left_of (restart_view (settings s x) h) ≡ [] → Restarts s.settings.log (first_value s) (view s t) (restart_view (settings s x) h)
-    → Restarts s.settings.log (first_value s) (after s.settings.log (act.LogOpen place rec) land.Full (view s t)) (restart_view (settings s x) (LogOpened place rec ∷ h))
+    → (scan (settings s x) h).ended ≡ true → rows_left_of (restart_view (settings s x) h) ≡ []
+    → Restarts s.settings.log (first_value s) (view s t) (restart_view (settings s x) h)
+    → Restarts s.settings.log (first_value s) (after s.settings.log (act.LogOpen place rec) land.Full (view s t))
+    (restart_view (settings s x) (LogOpened place rec ∷ h))
 open-restart s t x h place rec [] hand ended none before = absurd (cc)
 open-restart s t x h place rec (unit ∷ units) hand ended none before =
-    subst (λ (o : LogRec). Restarts s.settings.log (first_value s) (after s.settings.log (act.LogOpen place o) land.Full (view s t)) (restart_view (settings s x) (LogOpened place o ∷ h))) (some-same (Backout unit) rec hand)
-    (backed-restarts s.settings.log (first_value s) (view s t) (λ i. open_at (place % s.settings.log) land.Full i (log_slot s t i)) (restart_view (settings s x) h) unit ended none before)
+    subst (λ (o : LogRec). Restarts s.settings.log (first_value s) (after s.settings.log (act.LogOpen place o) land.Full (view s t))
+    (restart_view (settings s x) (LogOpened place o ∷ h))) (some-same (Backout unit) rec hand)
+    (backed-restarts s.settings.log (first_value s) (view s t) (λ i. open_at (place % s.settings.log) land.Full i (log_slot s t i))
+    (restart_view (settings s x) h) unit ended none before)
   where
     some-same : (a b : LogRec) → Some a ≡ Some b → a ≡ b
     some-same a b same = cc
 
-pub restart-hand : (p : Settings) (h : List Event) (rec : LogRec) → is_restarted h ≡ false → record_at_hand p h ≡ Some rec → record_of_restart (backouts_left p h) ≡ Some rec
+-- the record at hand in a restart is the next Backout
+pub restart-hand : (p : Settings) (h : List Event) (rec : LogRec) → is_restarted h ≡ false → record_at_hand p h ≡ Some rec
+    → record_of_restart (backouts_left p h) ≡ Some rec
 restart-hand p h rec restart hand =
-    subst (λ (b : Bool). (elim b [ true ↦ record_of_plan (last_plan p h) (slot_read h) | false ↦ record_of_restart (backouts_left p h) ]) ≡ Some rec) restart hand
+    subst (λ (b : Bool). (elim b [ true ↦ record_of_plan (last_plan p h) (slot_read h) | false ↦ record_of_restart (backouts_left p h) ])
+    ≡ Some rec) restart hand
 
+-- an owner that is an active after a CTLWRITE was one before
 pub by-write : (o n g f : Bool) → ((o || n) && not (g || f)) ≡ true → o ≡ true → (o && not g) ≡ true
 by-write true n true f e is = absurd (cc)
 by-write true n false f e is = refl
 by-write false n g f e is = absurd (cc)
 
+-- after each act
 pub restart-after : (s : Scen) (t : List Entry) (x : Site) (h : List Event) (w : Want) → Before s t x h w → IfSome (act_of s t x h w) (InRestart s t x h)
 restart-after s t x h want.Nothing b = tt
 restart-after s t x h (want.Exit told) b = tt
-restart-after s t x h (want.CtlWrite written) b = λ there sound read going. b.stands.2 (by-write (is_owner h) _ (has_signed_off h) _ there (b.stands.0 read)) sound read going
+restart-after s t x h (want.CtlWrite written) b =
+    λ there sound read going. b.stands.2 (by-write (is_owner h) _ (has_signed_off h) _ there (b.stands.0 read)) sound read going
 restart-after s t x h (want.LogRead n) b = by (has_read_block h) refl
   where
     by : (has : Bool) → has_read_block h ≡ has → KnowsRestart s t x h (view s t) (block_event s t n has ∷ h)
     by true is there sound read going = block-restart s t x h n true b.scen.limits b.state is b.stands.1 (λ e. b.stands.2 there sound e going) b.due.1 b.due.2
     by false is there sound read going = block-restart s t x h n false b.scen.limits b.state is b.stands.1 (λ e. b.stands.2 there sound e going) b.due.1 b.due.2
 restart-after s t x h (want.LogClose place) b =
-    λ there sound read going. moved-restarts s.settings.log (first_value s) (view s t) (λ i. close_at (place % s.settings.log) land.Full i (log_slot s t i)) (restart_view (settings s x) h) (b.stands.2 there sound read going)
+    λ there sound read going. moved-restarts s.settings.log (first_value s) (view s t)
+    (λ i. close_at (place % s.settings.log) land.Full i (log_slot s t i)) (restart_view (settings s x) h) (b.stands.2 there sound read going)
 restart-after s t x h (want.LogBody place rec) b =
-    λ there sound read going. moved-restarts s.settings.log (first_value s) (view s t) (λ i. body_at (place % s.settings.log) land.Full (record_spelling place rec) i (log_slot s t i)) (restart_view (settings s x) h) (b.stands.2 there sound read going)
+    λ there sound read going. moved-restarts s.settings.log (first_value s) (view s t)
+    (λ i. body_at (place % s.settings.log) land.Full (record_spelling place rec) i (log_slot s t i)) (restart_view (settings s x) h)
+    (b.stands.2 there sound read going)
 restart-after s t x h (want.LogOpen place rec) b =
-    λ there sound read going. open-restart s t x h place rec (backouts_left (settings s x) h) (restart-hand (settings s x) h rec going b.due.3) (b.due.5 going).0 (b.due.5 going).1 (b.stands.2 there sound read going)
+    λ there sound read going. open-restart s t x h place rec (backouts_left (settings s x) h) (restart-hand (settings s x) h rec going b.due.3)
+    (b.due.5 going).0 (b.due.5 going).1 (b.stands.2 there sound read going)
 restart-after s t x h (want.Undo rrn own) b =
-    λ there sound read going. undone-restarts s.settings.log (first_value s) (view s t) (restart_view (settings s x) h) rrn own (b.due.1 going).1.0 (b.due.1 going).0 (b.due.1 going).1.1 (b.stands.2 there sound read going)
+    λ there sound read going. undone-restarts s.settings.log (first_value s) (view s t) (restart_view (settings s x) h) rrn own (b.due.1 going).1.0
+    (b.due.1 going).0 (b.due.1 going).1.1 (b.stands.2 there sound read going)
 restart-after s t x h (want.KpClose k) b = λ there sound read going. no-clash (is_restarted h) b.due.3 going
 restart-after s t x h (want.KpBody k keypoint) b = λ there sound read going. no-clash (is_restarted h) b.due.3 going
 restart-after s t x h (want.KpOpen k keypoint) b = λ there sound read going. no-clash (is_restarted h) b.due.4 going
@@ -189,7 +233,9 @@ restart-after s t x h _ b = b.stands.2
 abbrev pub InSequence : Scen → List Entry → Site → List Event → Act → Type 0
 InSequence s t x h a = is_active (handed s t x (now t) h a ∷ h) ≡ true → After s t x h a
 
-pub inside-after : (s : Scen) (t : List Entry) (x : Site) (h : List Event) (w : Want) → (is_active h ≡ true → IfSome (act_of s t x h w) (After s t x h)) → IfSome (act_of s t x h w) (InSequence s t x h)
+-- after each act
+pub inside-after : (s : Scen) (t : List Entry) (x : Site) (h : List Event) (w : Want)
+    → (is_active h ≡ true → IfSome (act_of s t x h w) (After s t x h)) → IfSome (act_of s t x h w) (InSequence s t x h)
 inside-after s t x h want.Nothing go = tt
 inside-after s t x h (want.Exit told) go = tt
 inside-after s t x h (want.CtlWrite written) go = λ there. tt
@@ -214,7 +260,9 @@ inside-after s t x h _ go = go
 abbrev pub StaysIdle : Scen → List Entry → Site → List Event → Act → Type 0
 StaysIdle s t x h a = is_active (handed s t x (now t) h a ∷ h) ≡ false → AfterIdle s t x h a
 
-pub idle-after : (s : Scen) (t : List Entry) (x : Site) (h : List Event) (w : Want) → (is_active h ≡ false → Idle w) → IfSome (act_of s t x h w) (StaysIdle s t x h)
+-- after each act
+pub idle-after : (s : Scen) (t : List Entry) (x : Site) (h : List Event) (w : Want) → (is_active h ≡ false → Idle w)
+    → IfSome (act_of s t x h w) (StaysIdle s t x h)
 idle-after s t x h want.Nothing idle = tt
 idle-after s t x h (want.Exit told) idle = tt
 idle-after s t x h (want.CtlWrite written) idle = λ none. refl

@@ -41,27 +41,37 @@ last-roll first v (plans.Get k) last = last
 last-roll first v (plans.Put u k value place) last = last
 last-roll first v (plans.Commit u place) last = last
 
-pub log_write-last : (first : ℕ → Option (List ℕ)) (v : View) (plan : Plan) (p : Settings) (place : ℕ) (rec : LogRec) → RollLast first v plan → LastAt first v plan (log_write p place rec)
+-- while a record is written
+pub log_write-last : (first : ℕ → Option (List ℕ)) (v : View) (plan : Plan) (p : Settings) (place : ℕ) (rec : LogRec) → RollLast first v plan
+    → LastAt first v plan (log_write p place rec)
 log_write-last first v plan p place rec last = choose (LastAt first v plan) (nat_le p.limits.log place) _ _ (λ e. last) (λ e. last)
 
-none-plan : (first : ℕ → Option (List ℕ)) (v : View) (plan : Plan) (slot : List ℕ) → ◌≡◌ {A = Option LogRec} None (record_of_plan plan slot) → RollLast first v plan → Last first v
+-- where no record is at hand no unit rolls
+none-plan : (first : ℕ → Option (List ℕ)) (v : View) (plan : Plan) (slot : List ℕ) → ◌≡◌ {A = Option LogRec} None (record_of_plan plan slot)
+    → RollLast first v plan → Last first v
 none-plan first v (plans.Roll unit place) slot none last = absurd (cc)
 none-plan first v (plans.Answer a) slot none last = last
 none-plan first v (plans.Get k) slot none last = last
 none-plan first v (plans.Put u k value place) slot none last = last
 none-plan first v (plans.Commit u place) slot none last = last
 
-pub look-last : (first : ℕ → Option (List ℕ)) (v : View) (plan : Plan) (place gate : ℕ) (slot : List ℕ) (o : Option LogRec) → o ≡ record_of_plan plan slot → RollLast first v plan
+-- after a LOGLOOK
+pub look-last : (first : ℕ → Option (List ℕ)) (v : View) (plan : Plan) (place gate : ℕ) (slot : List ℕ) (o : Option LogRec)
+    → o ≡ record_of_plan plan slot → RollLast first v plan
     → LastIn first v plan (after_log_look place gate o)
 look-last first v plan place gate slot None hand last = none-plan first v plan slot hand last
 look-last first v plan place gate slot (Some rec) hand last = choose (LastAt first v plan) (gate == OPEN) _ _ (λ e. last) (λ e. last)
 
-pub close-last : (first : ℕ → Option (List ℕ)) (v : View) (plan : Plan) (place : ℕ) (slot : List ℕ) (o : Option LogRec) → o ≡ record_of_plan plan slot → RollLast first v plan
+-- after a LOGCLOSE
+pub close-last : (first : ℕ → Option (List ℕ)) (v : View) (plan : Plan) (place : ℕ) (slot : List ℕ) (o : Option LogRec) → o ≡ record_of_plan plan slot
+    → RollLast first v plan
     → LastIn first v plan (after_log_close place o)
 close-last first v plan place slot None hand last = none-plan first v plan slot hand last
 close-last first v plan place slot (Some rec) hand last = last
 
-pub read-last : (first : ℕ → Option (List ℕ)) (v : View) (p : Settings) (plan : Plan) (slot : List ℕ) → Last first v → LastIn first v plan (after_file_read p slot plan)
+-- after a FILEREAD
+pub read-last : (first : ℕ → Option (List ℕ)) (v : View) (p : Settings) (plan : Plan) (slot : List ℕ) → Last first v
+    → LastIn first v plan (after_file_read p slot plan)
 read-last first v p (plans.Put unit rrn value place) slot last = log_write-last first v (plans.Put unit rrn value place) p place (Put unit rrn slot) last
 read-last first v p (plans.Roll unit place) slot last = last
 read-last first v p (plans.Answer a) slot last = last
@@ -69,7 +79,8 @@ read-last first v p (plans.Get k) slot last = last
 read-last first v p (plans.Commit u place) slot last = last
 
 -- two open units have not put one record
-lock-other : (first : ℕ → Option (List ℕ)) (size : ℕ) (v : View) (u w : UnitId) (r : ℕ) → State size first v → same_unit u w ≡ false → has_put u r (open_puts v.log) ≡ true → has_put w r (open_puts v.log) ≡ false
+lock-other : (first : ℕ → Option (List ℕ)) (size : ℕ) (v : View) (u w : UnitId) (r : ℕ) → State size first v → same_unit u w ≡ false
+    → has_put u r (open_puts v.log) ≡ true → has_put w r (open_puts v.log) ≡ false
 lock-other first size v u w r state differ put =
     false-if (has_put w r (open_puts v.log))
     (λ e. no-clash (other_has_put w r (open_puts v.log)) (put-found u w r (open_puts v.log) differ put) (state.undone.locked w r e))
@@ -83,8 +94,10 @@ left-row unit u r (row ∷ rows) put = by (same_unit row.unit unit) (row.undo.rr
     second true b e = refl
     second false b e = e
 
-    by : (own here is : Bool) → same_unit row.unit unit ≡ own → (row.undo.rrn == r) ≡ here → same_unit row.unit u ≡ is → (has_put u r (without unit rows) ≡ true → (has_put u r rows ≡ true) × (same_unit u unit ≡ false))
-        → has_put u r (cond (not own) (row ∷ without unit rows) (without unit rows)) ≡ true → (((here && is) || has_put u r rows) ≡ true) × (same_unit u unit ≡ false)
+    by : (own here is : Bool) → same_unit row.unit unit ≡ own → (row.undo.rrn == r) ≡ here → same_unit row.unit u ≡ is
+        → (has_put u r (without unit rows) ≡ true → (has_put u r rows ≡ true) × (same_unit u unit ≡ false))
+        → has_put u r (cond (not own) (row ∷ without unit rows) (without unit rows)) ≡ true
+        → (((here && is) || has_put u r rows) ≡ true) × (same_unit u unit ≡ false)
     by true here is e f g rest put = let found = rest put in (second (here && is) (has_put u r rows) found.0, found.1)
     by false true true e f g rest put = (refl, subst (λ (w : UnitId). same_unit w unit ≡ false) (same_unit-true row.unit u g) e)
     by false true false e f g rest put = rest (sym (rw f (rw g refl)) ∙ put)
@@ -99,7 +112,8 @@ put-last first v unit rrn before open_yet last u r put but =
     row : Row
     row = record { unit = unit; undo = record { rrn = rrn; before = before } }
 
-    by : (own here : Bool) → same_unit unit u ≡ own → (rrn == r) ≡ here → ((rrn == r && same_unit unit u) || has_put u r (open_puts v.log)) ≡ true → (own && here) ≡ false
+    by : (own here : Bool) → same_unit unit u ≡ own → (rrn == r) ≡ here → ((rrn == r && same_unit unit u) || has_put u r (open_puts v.log)) ≡ true
+        → (own && here) ≡ false
         → v.image r ≡ slot_of (value_after r (v.puts u) (value_at first v r))
     by true true e f found but = absurd (cc)
     by true false e f found but = last u r (sym (rw f refl) ∙ found) refl
@@ -107,7 +121,8 @@ put-last first v unit rrn before open_yet last u r put but =
     by false false e f found but = last u r (sym (rw f refl) ∙ found) refl
 
 -- a Commit
-commit-last : (first : ℕ → Option (List ℕ)) (size : ℕ) (v : View) (unit : UnitId) → State size first v → list_any (λ u. same_unit u unit) (flight v.log) ≡ true → Last first v
+commit-last : (first : ℕ → Option (List ℕ)) (size : ℕ) (v : View) (unit : UnitId) → State size first v
+    → list_any (λ u. same_unit u unit) (flight v.log) ≡ true → Last first v
     → Last first (record v { log = Commit unit ∷ v.log })
 commit-last first size v unit state found last u r put but =
     let open_yet : has_ended unit v.log ≡ false = in_flight-not_ended v.log unit found in
@@ -118,21 +133,27 @@ commit-last first size v unit state found last u r put but =
     last u r parts.0 refl ∙ ap (λ (x : Option (List ℕ)). slot_of (value_after r (v.puts u) x)) (sym value)
 
 -- a Backout
-backout-last : (first : ℕ → Option (List ℕ)) (v : View) (unit : UnitId) → LastBut (λ u r. same_unit unit u) first v → Last first (record v { log = Backout unit ∷ v.log })
+backout-last : (first : ℕ → Option (List ℕ)) (v : View) (unit : UnitId) → LastBut (λ u r. same_unit unit u) first v
+    → Last first (record v { log = Backout unit ∷ v.log })
 backout-last first v unit last u r put but =
     let parts = left-row unit u r (open_puts v.log) (subst (λ (rows : List Row). has_put u r rows ≡ true) (open_puts-backout v.log unit) put) in
     last u r parts.0 (turned u parts.1)
   where
     turned : (u : UnitId) → same_unit u unit ≡ false → same_unit unit u ≡ false
-    turned u differ = false-if (same_unit unit u) (λ e. no-clash (same_unit u unit) (subst (λ (w : UnitId). same_unit w unit ≡ true) (same_unit-true unit u e) (same_unit-refl unit)) differ)
+    turned u differ =
+        false-if (same_unit unit u) (λ e. no-clash (same_unit u unit)
+        (subst (λ (w : UnitId). same_unit w unit ≡ true) (same_unit-true unit u e) (same_unit-refl unit)) differ)
 
-pub open-last : (first : ℕ → Option (List ℕ)) (size : ℕ) (v : View) (plan : Plan) (slot : List ℕ) (rec : LogRec) → State size first v → RecordDue size first v rec
+-- after a LOGOPEN
+pub open-last : (first : ℕ → Option (List ℕ)) (size : ℕ) (v : View) (plan : Plan) (slot : List ℕ) (rec : LogRec) → State size first v
+    → RecordDue size first v rec
     → record_of_plan plan slot ≡ Some rec → RollLast first v plan
     → LastIn first (record v { log = rec ∷ v.log }) plan (after_log_open rec plan)
 open-last first size v (plans.Put u k value place) slot (Put unit rrn before) state due hand last =
     let same = same-put u unit k rrn slot before hand in
     subst (λ (w : UnitId). LastBut (λ x r. same_unit w x && k == r) first (record v { log = Put unit rrn before ∷ v.log })) (sym same.0)
-    (subst (λ (n : ℕ). LastBut (λ x r. same_unit unit x && n == r) first (record v { log = Put unit rrn before ∷ v.log })) (sym same.1) (put-last first v unit rrn before due.1 last))
+    (subst (λ (n : ℕ). LastBut (λ x r. same_unit unit x && n == r) first (record v { log = Put unit rrn before ∷ v.log })) (sym same.1)
+    (put-last first v unit rrn before due.1 last))
 open-last first size v (plans.Put u k value place) slot (Commit unit) state due hand last = absurd (cc)
 open-last first size v (plans.Put u k value place) slot (Backout unit) state due hand last = absurd (cc)
 open-last first size v (plans.Commit u place) slot (Commit unit) state due hand last = commit-last first size v unit state due.0 last
@@ -146,7 +167,8 @@ open-last first size v (plans.Answer a) slot rec state due hand last = absurd (c
 open-last first size v (plans.Get k) slot rec state due hand last = absurd (cc)
 
 -- the write of a put
-pub write-last : (first : ℕ → Option (List ℕ)) (size : ℕ) (v : View) (unit : UnitId) (k : ℕ) (value : List ℕ) → State size first v → has_ended unit v.log ≡ false → has_put unit k (open_puts v.log) ≡ true
+pub write-last : (first : ℕ → Option (List ℕ)) (size : ℕ) (v : View) (unit : UnitId) (k : ℕ) (value : List ℕ) → State size first v
+    → has_ended unit v.log ≡ false → has_put unit k (open_puts v.log) ≡ true
     → LastBut (λ u r. same_unit unit u && k == r) first v → Last first (after size (act.FileWrite unit k value) land.Full v)
 write-last first size v unit k value state open_yet own last u r put but =
     by (r == k) (same_unit unit u) refl refl
@@ -170,21 +192,26 @@ write-last first size v unit k value state open_yet own last u r put but =
     others w e = rw e refl
 
     book : value_by (λ w. if same_unit unit w && true then (k, value) ∷ v.puts w else v.puts w) r (committed v.log) (first r) ≡ value_at first v r
-    book = value_by-uncommitted v.puts (λ w. if same_unit unit w && true then (k, value) ∷ v.puts w else v.puts w) unit r (committed v.log) (first r) others uncommitted
+    book =
+        value_by-uncommitted v.puts (λ w. if same_unit unit w && true then (k, value) ∷ v.puts w else v.puts w) unit r (committed v.log)
+        (first r) others uncommitted
 
     by : (here is : Bool) → (r == k) ≡ here → same_unit unit u ≡ is
         → (elim here [ true ↦ slot_of (Some value) | false ↦ v.image r ])
-        ≡ slot_of (value_after r (if is && true then (k, value) ∷ v.puts u else v.puts u) (value_by (λ w. if same_unit unit w && true then (k, value) ∷ v.puts w else v.puts w) r (committed v.log) (first r)))
+        ≡ slot_of (value_after r (if is && true then (k, value) ∷ v.puts u else v.puts u)
+        (value_by (λ w. if same_unit unit w && true then (k, value) ∷ v.puts w else v.puts w) r (committed v.log) (first r)))
     by true true e f = let g : (k == r) ≡ true = turn-true r k e in rw g refl
     by true false e f =
-        no-clash (has_put u k (open_puts v.log)) (subst (λ (n : ℕ). has_put u n (open_puts v.log) ≡ true) (same-k r k e) put) (lock-other first size v unit u k state f own)
+        no-clash (has_put u k (open_puts v.log)) (subst (λ (n : ℕ). has_put u n (open_puts v.log) ≡ true) (same-k r k e) put)
+        (lock-other first size v unit u k state f own)
     by false true e f =
         let g : (k == r) ≡ false = turn r k e in
         rw g (last u r put (rw f g) ∙ ap (λ (x : Option (List ℕ)). slot_of (value_after r (v.puts u) x)) (sym book))
     by false false e f = last u r put (rw f refl) ∙ ap (λ (x : Option (List ℕ)). slot_of (value_after r (v.puts u) x)) (sym book)
 
 -- an UNDO of a unit that rolls
-pub undo-last : (first : ℕ → Option (List ℕ)) (size : ℕ) (v : View) (unit : UnitId) (rrn : ℕ) (own : List ℕ) → State size first v → has_put unit rrn (open_puts v.log) ≡ true
+pub undo-last : (first : ℕ → Option (List ℕ)) (size : ℕ) (v : View) (unit : UnitId) (rrn : ℕ) (own : List ℕ) → State size first v
+    → has_put unit rrn (open_puts v.log) ≡ true
     → LastBut (λ u r. same_unit unit u) first v → LastBut (λ u r. same_unit unit u) first (after size (act.Undo rrn own) land.Full v)
 undo-last first size v unit rrn own state here last u r put but = by (r == rrn) refl
   where
@@ -192,15 +219,21 @@ undo-last first size v unit rrn own state here last u r put but = by (r == rrn) 
     same-k i j e = grind (arith, common_steps)
 
     by : (b : Bool) → (r == rrn) ≡ b → (elim b [ true ↦ own | false ↦ v.image r ]) ≡ slot_of (value_after r (v.puts u) (value_at first v r))
-    by true e = no-clash (has_put u rrn (open_puts v.log)) (subst (λ (n : ℕ). has_put u n (open_puts v.log) ≡ true) (same-k r rrn e) put) (lock-other first size v unit u rrn state but here)
+    by true e =
+        no-clash (has_put u rrn (open_puts v.log)) (subst (λ (n : ℕ). has_put u n (open_puts v.log) ≡ true) (same-k r rrn e) put)
+        (lock-other first size v unit u rrn state but here)
     by false e = last u r put but
 
-pub roll-last : (first : ℕ → Option (List ℕ)) (v : View) (p : Settings) (unit : UnitId) (place : ℕ) (rows : List Undo) → LastBut (λ u r. same_unit unit u) first v
+-- while a unit rolls
+pub roll-last : (first : ℕ → Option (List ℕ)) (v : View) (p : Settings) (unit : UnitId) (place : ℕ) (rows : List Undo)
+    → LastBut (λ u r. same_unit unit u) first v
     → LastAt first v (plans.Roll unit place) (roll_next p unit place rows)
 roll-last first v p unit place [] last = log_write-last first v (plans.Roll unit place) p place (Backout unit) last
 roll-last first v p unit place (row ∷ rows) last = last
 
-pub item-last : (first : ℕ → Option (List ℕ)) (v : View) (p : Settings) (h : List Event) (plan : Plan) → Last first v → LastIn first v plan (after_item p h plan)
+-- after an ITEM
+pub item-last : (first : ℕ → Option (List ℕ)) (v : View) (p : Settings) (h : List Event) (plan : Plan) → Last first v
+    → LastIn first v plan (after_item p h plan)
 item-last first v p h (plans.Answer a) last = last
 item-last first v p h (plans.Get k) last = last
 item-last first v p h (plans.Put u k value place) last = last

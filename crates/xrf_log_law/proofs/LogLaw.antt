@@ -31,10 +31,12 @@ use Rattle.xrf_log_law.proofs.InvariantActs.{Kept, book-at}
 use Rattle.xrf_log_law.proofs.ConditionEntries.{EntryConditions, go-kinds}
 use Rattle.xrf_trace.specs.ItemsSeeBook.{ItemsSeeBook}
 use Rattle.xrf_log_law.specs.Conditions.{WorldConditions}
+
 -- at each RESTARTED the file is the book
 restarts : (s : Scen) (t : List Entry) (e : Entry) → Invariant s t → Step s t e → RestartsAtBook s t e
 restarts s t e k step = (by_kind s t e (λ e. Kept s t e) step (kept-kinds s t k)).book
 
+-- of each run
 pub file-is-book : OfRuns FileIsBook
 file-is-book s t scen is few = each-entry s (RestartsAtBook s) (restarts s) t (in_ranges s scen) is few
 
@@ -43,7 +45,9 @@ pub units-are-items : OfRuns UnitsAreItems
 units-are-items s t scen is few =
     let all = each-entry s (Facts s) (facts s) t (in_ranges s scen) is few in
     record {
-      answers = each-part (λ before e. AtSite s before e.who (λ x h. EndedBy s t before e x)) (λ before e. AtSite s before e.who (λ x h. AnswersMean s (log t) before e x)) t
+      answers =
+          each-part (λ before e. AtSite s before e.who (λ x h. EndedBy s t before e x))
+          (λ before e. AtSite s before e.who (λ x h. AnswersMean s (log t) before e x)) t
           (answer-means s t) (all-ended s t (in_ranges s scen) is few);
       once = each-part (Facts s) _ t (λ t e facts. facts.once) all;
       asked = each-part (Facts s) _ t (λ t e facts. facts.asked) all;
@@ -59,14 +63,17 @@ items-see-book s t scen is few =
     }
 
 -- where no unit is in flight there is nothing to undo
-none-undone : (s : Scen) (t : List Entry) → State s.settings.log (first_value s) (view s t) → flight (log t) ≡ [] → (r : ℕ) → image s t r ≡ booked (first_value s) (view s t) r
+none-undone : (s : Scen) (t : List Entry) → State s.settings.log (first_value s) (view s t) → flight (log t) ≡ [] → (r : ℕ)
+    → image s t r ≡ booked (first_value s) (view s t) r
 none-undone s t state none r =
-    let rows : open_puts (log t) ≡ [] = sym (open-rows (log t)) ∙ ap (map (λ (q : LoggedPut). record { unit = q.unit; undo = q.undo })) (no-rows (log t) none) in
+    let rows : open_puts (log t) ≡ [] = sym (open-rows (log t))
+    ∙ ap (map (λ (q : LoggedPut). record { unit = q.unit; undo = q.undo })) (no-rows (log t) none) in
     sym (undone-by rows) ∙ state.undone.back r
   where
     undone-by : open_puts (log t) ≡ [] → undo_at r (map (λ row. row.undo) (open_puts (log t))) (image s t r) ≡ image s t r
     undone-by rows = ap (λ (l : List Row). undo_at r (map (λ row. row.undo) l) (image s t r)) rows
 
+-- what the data sets hold
 pub data-sets-stand : OfRuns DataSetsStand
 data-sets-stand s t scen is few =
     let state = (always s t (in_ranges s scen) is few).stands.state in
@@ -83,6 +90,7 @@ data-sets-stand s t scen is few =
 goes : (s : Scen) (t : List Entry) (e : Entry) → Invariant s t → Step s t e → EntryConditions s t e
 goes s t e k step = by_kind s t e (λ e. EntryConditions s t e) step (go-kinds s t k)
 
+-- so of each run
 pub conditions-are-met : OfRuns WorldConditions
 conditions-are-met s t scen is few =
     let all = each-entry s (EntryConditions s) (goes s) t (in_ranges s scen) is few in
@@ -96,7 +104,8 @@ conditions-are-met s t scen is few =
 
 -- the trace answers as the jobs do
 pub jobs-answer-alike : JobsAnswerAlike
-jobs-answer-alike s t scen is few = each-part (Facts s) (AnswersAlike s) t (λ t e facts. facts.same) (each-entry s (Facts s) (facts s) t (in_ranges s scen) is few)
+jobs-answer-alike s t scen is few =
+    each-part (Facts s) (AnswersAlike s) t (λ t e facts. facts.same) (each-entry s (Facts s) (facts s) t (in_ranges s scen) is few)
 
 -- and has their ledgers
 pub ledgers-agree : OfRuns LedgersAgree

@@ -55,7 +55,8 @@ pub record ActFacts (s : Scen) (t : List Entry) (x : Site) (h : List Event) (a :
   pub same : Where (is_in_full l) (Same s t x h a)
 
 -- a fact of a job where one is there and a test is met
-where-job : (b : Bool) (job : Option (List Event)) (fact : List Event → Type 0) → ((h : List Event) → job ≡ Some h → Where b (fact h)) → Where b (OfJob job fact)
+where-job : (b : Bool) (job : Option (List Event)) (fact : List Event → Type 0) → ((h : List Event) → job ≡ Some h → Where b (fact h))
+    → Where b (OfJob job fact)
 where-job true job fact holds = of-job job fact holds
 where-job false job fact holds = tt
 
@@ -90,11 +91,13 @@ no-act s t x h act.Tick l none = record { restarted = tt; reads = tt; asked = tt
 no-act s t x h (act.Confirm n) l none = record { restarted = tt; reads = tt; asked = tt; same = where-is (is_in_full l) _ refl }
 no-act s t x h _ l none = absurd (cc)
 
+-- it logs and writes nothing
 none-once : (t : List Entry) (a : Act) (l : Land) → is_act a ≡ false → IsOfNoEnded t a l
 none-once t (act.LogOpen p rec) l none = absurd (cc)
 none-once t (act.FileWrite unit rrn value) l none = absurd (cc)
 none-once t _ l none = tt
 
+-- a choice that reaches a job is no act of it
 quiet-none : (a : Act) → is_quiet a ≡ true → is_act a ≡ false
 quiet-none act.Abend quiet = refl
 quiet-none (act.Reply go) quiet = refl
@@ -104,13 +107,16 @@ quiet-none act.NoAct quiet = refl
 quiet-none _ quiet = absurd (cc)
 
 -- an act of a job
-act-facts : (s : Scen) (t : List Entry) (x : Site) (h : List Event) (l : Land) (w : Want) → Before s t x h w → IfSome (act_of s t x h w) (λ a. ActFacts s t x h a l)
+act-facts : (s : Scen) (t : List Entry) (x : Site) (h : List Event) (l : Land) (w : Want) → Before s t x h w
+    → IfSome (act_of s t x h w) (λ a. ActFacts s t x h a l)
 act-facts s t x h l w b = over (act_of s t x h w) (takes-restarted s t x h w b) (reads-book s t x h w b) (is-asked s t x h w b) (answers-same s t x h w b)
   where
-    over : (o : Option Act) → IfSome o (TakesRestarted h) → IfSome o (ReadsBook s t x) → IfSome o (IsAsked s t x h) → IfSome o (Same s t x h) → IfSome o (λ a. ActFacts s t x h a l)
+    over : (o : Option Act) → IfSome o (TakesRestarted h) → IfSome o (ReadsBook s t x) → IfSome o (IsAsked s t x h) → IfSome o (Same s t x h)
+        → IfSome o (λ a. ActFacts s t x h a l)
     over None p q r u = tt
     over (Some a) p q r u = record { restarted = p; reads = q; asked = r; same = where-is (is_in_full l) _ u }
 
+-- of each kind of entry
 fact-kinds : (s : Scen) (t : List Entry) → Invariant s t → Kinds s t (λ e. Facts s t e)
 fact-kinds s t k = record {
   tick = record { restarted = tt; reads = tt; asked = tt; same = tt; once = tt };
@@ -120,12 +126,15 @@ fact-kinds s t k = record {
       let facts : ActFacts s t x h a l = subst (λ (o : Option Act). IfSome o (λ c. ActFacts s t x h c l)) is (act-facts s t x h l (next (settings s x) h) b) in
       let once : IsOfNoEnded t a l = subst (λ (o : Option Act). IfSome o (λ c. IsOfNoEnded t c l)) is (of-no-ended s t x h (next (settings s x) h) l b) in
       entry-facts s t x (inc_at a (Some h)) a l once (λ g e. subst (λ (o : Option (List Event)). OfJob o (λ f. ActFacts s t x f a l)) (sym job ∙ e) facts));
-  quiet = λ x i a quiet. entry-facts s t x i a land.Full (none-once t a land.Full (quiet-none a quiet)) (λ h job. no-act s t x h a land.Full (quiet-none a quiet));
+  quiet =
+      λ x i a quiet. entry-facts s t x i a land.Full (none-once t a land.Full (quiet-none a quiet))
+      (λ h job. no-act s t x h a land.Full (quiet-none a quiet));
   stop = λ x i cut. entry-facts s t x i act.NoAct (land.Stop cut) tt (λ h job. no-act s t x h act.NoAct (land.Stop cut) refl);
   active = λ x. entry-facts s t x 0 act.StartActive land.Full tt (λ h job. no-act s t x h act.StartActive land.Full refl);
   standby = λ x. entry-facts s t x 0 act.StartStandby land.Full tt (λ h job. no-act s t x h act.StartStandby land.Full refl);
 }
 
+-- of each entry
 pub facts : (s : Scen) (t : List Entry) (e : Entry) → Invariant s t → Step s t e → Facts s t e
 facts s t e k step = by_kind s t e (λ e. Facts s t e) step (fact-kinds s t k)
 
@@ -136,9 +145,11 @@ three-true true true false P all = tt
 three-true true false c P all = tt
 three-true false b c P all = tt
 
+-- the ledger of the trace is the job's
 pub ledgers-are : (s : Scen) (t : List Entry) (x : Site) → Stands s t → SitesServe s t → OfJob (hist s t x) (LedgerIs s t x)
 ledgers-are s t x stands all = of-job (hist s t x) (LedgerIs s t x) (λ h job. three-true (is_active h) (is_sound h) (is_restarted h) _ (λ there sound working.
     (let here : SiteStands s t x (view s t) h = subst (λ (o : Option (List Event)). IfSome o (SiteStands s t x (view s t))) job (stands.jobs x) in
-    let serves : Serves (settings s x) h (site_view s t x) = subst (λ (o : Option (List Event)). IfSome o (λ g. Serves (settings s x) g (site_view s t x))) job (all x) in
+    let serves : Serves (settings s x) h (site_view s t x) = subst
+    (λ (o : Option (List Event)). IfSome o (λ g. Serves (settings s x) g (site_view s t x))) job (all x) in
     let at = serves.2 there sound working in
     joined s t x h (opened s t x) job (here.5 there sound working).0 at.1 at.0)))

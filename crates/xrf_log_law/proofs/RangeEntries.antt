@@ -40,28 +40,38 @@ use Rattle.xrf_trace.specs.declared.entry.Land.TheVariants as land
 use Rattle.xrf_trace.specs.declared.entry.Act.TheVariants as act
 use Rattle.xrf_setup.specs.declared.choice.Choice.TheVariants as choice
 
-
 -- a record of another incarnation
-of-other : (log : List LogRec) (n g : ℕ) (restarted : Bool) (unit : UnitId) → IsOf n log unit restarted → (restarted ≡ true → n ≡ g → ⊥) → uses g log ≡ false → (unit.inc == g) ≡ false
+of-other : (log : List LogRec) (n g : ℕ) (restarted : Bool) (unit : UnitId) → IsOf n log unit restarted → (restarted ≡ true → n ≡ g → ⊥)
+    → uses g log ≡ false → (unit.inc == g) ≡ false
 of-other log n g true unit of differ unused = false-if (unit.inc == g) (λ e. differ refl (sym of ∙ eq-of-true unit.inc g e))
-of-other log n g false unit of differ unused = false-if (unit.inc == g) (λ e. no-clash (uses g log) (subst (λ (i : ℕ). uses i log ≡ true) (eq-of-true unit.inc g e) of) unused)
+of-other log n g false unit of differ unused =
+    false-if (unit.inc == g) (λ e. no-clash (uses g log) (subst (λ (i : ℕ). uses i log ≡ true) (eq-of-true unit.inc g e) of) unused)
 
-joins-fresh : (log : List LogRec) (n g : ℕ) (restarted : Bool) (rec : LogRec) (b : Bool) → IsOf n log (unit_of rec) restarted → (restarted ≡ true → n ≡ g → ⊥) → uses g log ≡ false → uses g (if b then rec ∷ log else log) ≡ false
-joins-fresh log n g restarted rec true of differ unused = ap (λ (c : Bool). c || uses g log) (of-other log n g restarted (unit_of rec) of differ unused) ∙ unused
+-- so a number that no record is of stays so
+joins-fresh : (log : List LogRec) (n g : ℕ) (restarted : Bool) (rec : LogRec) (b : Bool) → IsOf n log (unit_of rec) restarted
+    → (restarted ≡ true → n ≡ g → ⊥) → uses g log ≡ false → uses g (if b then rec ∷ log else log) ≡ false
+joins-fresh log n g restarted rec true of differ unused =
+    ap (λ (c : Bool). c || uses g log) (of-other log n g restarted (unit_of rec) of differ unused) ∙ unused
 joins-fresh log n g restarted rec false of differ unused = unused
 
 -- the job itself
 abbrev Later : Scen → List Entry → Site → List Event → Land → Act → Type 0
 Later s t x h l a = IfSome (after_act s t x (now t) a (Some h)) (IsFresh (log_after a l (log t)))
 
-fresh-act : (s : Scen) (t : List Entry) (x : Site) (h : List Event) (l : Land) (w : Want) → Before s t x h w → IsFresh (log t) h → IfSome (act_of s t x h w) (Later s t x h l)
+-- after each act in full
+fresh-act : (s : Scen) (t : List Entry) (x : Site) (h : List Event) (l : Land) (w : Want) → Before s t x h w → IsFresh (log t) h
+    → IfSome (act_of s t x h w) (Later s t x h l)
 fresh-act s t x h l (want.LogOpen place rec) n fresh = λ granted going.
-    joins-fresh (log t) (number h) (number h) (is_restarted h) rec (opens l) (open-hand s t x h place rec n).of (λ e f. no-clash (is_restarted h) e going) (fresh granted going)
+    joins-fresh (log t) (number h) (number h) (is_restarted h) rec (opens l) (open-hand s t x h place rec n).of
+    (λ e f. no-clash (is_restarted h) e going) (fresh granted going)
 fresh-act s t x h l (want.CtlWrite written) n fresh = λ granted going. by (is_granted h) refl going
   where
     by : (b : Bool) → is_granted h ≡ b → is_restarted h ≡ false → uses (if b then number h else written.last) (log t) ≡ false
     by true is going = fresh is going
-    by false is going = false-if (uses written.last (log t)) (λ used. (let below = n.ranges.below written.last used in let above = (n.writes written refl).last_of_grant is in absurd (omega (arith, below, above))))
+    by false is going =
+        false-if (uses written.last (log t))
+        (λ used. (let below = n.ranges.below written.last used in let above = (n.writes written refl).last_of_grant is in absurd
+        (omega (arith, below, above))))
 fresh-act s t x h l (want.LogRead k) n fresh = by (has_read_block h)
   where
     by : (b : Bool) → IsFresh (log t) (block_event s t k b ∷ h)
@@ -79,10 +89,12 @@ fresh-act s t x h l want.Restarted n fresh = λ granted going. false-true (sym g
 fresh-act s t x h l _ n fresh = fresh
 
 -- any job, where a record joins the log
-fresh-log : (s : Scen) (t : List Entry) (x : Site) (h g : List Event) (l : Land) (w : Want) → Before s t x h w → IsFresh (log t) g → (is_granted g ≡ true → is_restarted g ≡ false → is_active h ≡ true → is_restarted h ≡ true → number h ≡ number g → ⊥)
+fresh-log : (s : Scen) (t : List Entry) (x : Site) (h g : List Event) (l : Land) (w : Want) → Before s t x h w → IsFresh (log t) g
+    → (is_granted g ≡ true → is_restarted g ≡ false → is_active h ≡ true → is_restarted h ≡ true → number h ≡ number g → ⊥)
     → IfSome (act_of s t x h w) (λ a. IsFresh (log_after a l (log t)) g)
 fresh-log s t x h g l (want.LogOpen place rec) n fresh differ = λ granted going.
-    joins-fresh (log t) (number h) (number g) (is_restarted h) rec (opens l) (open-hand s t x h place rec n).of (differ granted going (n.acts refl)) (fresh granted going)
+    joins-fresh (log t) (number h) (number g) (is_restarted h) rec (opens l) (open-hand s t x h place rec n).of (differ granted going (n.acts refl))
+    (fresh granted going)
 fresh-log s t x h g l want.Nothing n fresh differ = tt
 fresh-log s t x h g l (want.Exit told) n fresh differ = tt
 fresh-log s t x h g l want.Item n fresh differ = of-item s t x (λ a. IsFresh (log_after a l (log t)) g) fresh
@@ -124,20 +136,57 @@ quiet-fresh s t x (act.Exit said) (Some h) quiet fresh = fresh
 quiet-fresh s t x act.NoAct (Some h) quiet fresh = fresh
 quiet-fresh s t x _ (Some h) quiet fresh = absurd (cc)
 
+-- the ranges after a choice that reaches a job
 abbrev QuietRanges : Scen → List Entry → Site → ℕ → Act → Type 0
 QuietRanges s t x i a = OwnAfter s t x a land.Full (hist s t x) (IsFresh (log t)) → InRanges s t → InRanges s (made t x i a land.Full ∷ t)
 
+-- it keeps them
 quiet-ranges : (s : Scen) (t : List Entry) (x : Site) (i : ℕ) (a : Act) → is_quiet a ≡ true → QuietRanges s t x i a
 quiet-ranges s t x i act.Abend quiet own r =
-    record { units = r.units; file = r.file; below = r.below; values = r.values; fresh = sites-after s t x i act.Abend land.Full (λ y. IsFresh (log t)) own refl (r.fresh (other x)) }
+    record {
+      units = r.units;
+      file = r.file;
+      below = r.below;
+      values = r.values;
+      fresh = sites-after s t x i act.Abend land.Full
+          (λ y. IsFresh (log t)) own refl (r.fresh (other x));
+    }
 quiet-ranges s t x i (act.Reply go) quiet own r =
-    record { units = r.units; file = r.file; below = r.below; values = r.values; fresh = sites-after s t x i (act.Reply go) land.Full (λ y. IsFresh (log t)) own refl (r.fresh (other x)) }
+    record {
+      units = r.units;
+      file = r.file;
+      below = r.below;
+      values = r.values;
+      fresh = sites-after s t x i (act.Reply go) land.Full
+          (λ y. IsFresh (log t)) own refl (r.fresh (other x));
+    }
 quiet-ranges s t x i (act.Cebt command reply) quiet own r =
-    record { units = r.units; file = r.file; below = r.below; values = r.values; fresh = sites-after s t x i (act.Cebt command reply) land.Full (λ y. IsFresh (log t)) own refl (r.fresh (other x)) }
+    record {
+      units = r.units;
+      file = r.file;
+      below = r.below;
+      values = r.values;
+      fresh = sites-after s t x i (act.Cebt command reply) land.Full
+          (λ y. IsFresh (log t)) own refl (r.fresh (other x));
+    }
 quiet-ranges s t x i (act.Exit said) quiet own r =
-    record { units = r.units; file = r.file; below = r.below; values = r.values; fresh = sites-after s t x i (act.Exit said) land.Full (λ y. IsFresh (log t)) own refl (r.fresh (other x)) }
+    record {
+      units = r.units;
+      file = r.file;
+      below = r.below;
+      values = r.values;
+      fresh = sites-after s t x i (act.Exit said) land.Full
+          (λ y. IsFresh (log t)) own refl (r.fresh (other x));
+    }
 quiet-ranges s t x i act.NoAct quiet own r =
-    record { units = r.units; file = r.file; below = r.below; values = r.values; fresh = sites-after s t x i act.NoAct land.Full (λ y. IsFresh (log t)) own refl (r.fresh (other x)) }
+    record {
+      units = r.units;
+      file = r.file;
+      below = r.below;
+      values = r.values;
+      fresh = sites-after s t x i act.NoAct land.Full
+          (λ y. IsFresh (log t)) own refl (r.fresh (other x));
+    }
 quiet-ranges s t x i _ quiet own r = absurd (cc)
 
 -- each entry keeps the ranges
@@ -149,7 +198,8 @@ range-kinds s t k = record {
       (let b = before-next s t x h k job in
       let fresh_now : IsFresh (log t) h = subst (λ (o : Option (List Event)). IfSome o (IsFresh (log t))) job (k.ranges.fresh x) in
       let theirs : IfSome (hist s t (other x)) (IsFresh (log_after a l (log t))) =
-      other-fresh s t x h a l (hist s t (other x)) is b (k.ranges.fresh (other x)) (λ g there granted granted_there same. k.known.apart x h g job there granted granted_there same) in
+      other-fresh s t x h a l (hist s t (other x)) is b (k.ranges.fresh (other x))
+      (λ g there granted granted_there same. k.known.apart x h g job there granted granted_there same) in
       record {
         units = subst (λ (o : Option Act). IfSome o (λ c. AreUnits (log_after c l (log t)))) is (units-after s t x h l _ b);
         file = subst (λ (o : Option Act). IfSome o (λ c. AreOfFile s.settings.file (log_after c l (log t)))) is (file-after s t x h l _ b);
@@ -160,21 +210,25 @@ range-kinds s t k = record {
             (own-other s t x h a (hist s t (other x)) is) theirs;
       });
   quiet = λ x i a quiet.
-      quiet-ranges s t x i a quiet (quiet-after s t x a (hist s t x) (IsFresh (log t)) quiet (quiet-fresh s t x a (hist s t x) quiet (k.ranges.fresh x))) k.ranges;
+      quiet-ranges s t x i a quiet (quiet-after s t x a (hist s t x) (IsFresh (log t)) quiet
+      (quiet-fresh s t x a (hist s t x) quiet (k.ranges.fresh x))) k.ranges;
   stop = λ x i cut. record {
-    units = k.ranges.units; file = k.ranges.file;
+    units = k.ranges.units;
+    file = k.ranges.file;
     below = k.ranges.below;
     values = k.ranges.values;
     fresh = sites-after s t x i act.NoAct (land.Stop cut) (λ y. IsFresh (log t)) tt refl (k.ranges.fresh (other x));
   };
   active = λ x. record {
-    units = k.ranges.units; file = k.ranges.file;
+    units = k.ranges.units;
+    file = k.ranges.file;
     below = k.ranges.below;
     values = k.ranges.values;
     fresh = sites-after s t x 0 act.StartActive land.Full (λ y. IsFresh (log t)) (λ granted. false-true granted) refl (k.ranges.fresh (other x));
   };
   standby = λ x. record {
-    units = k.ranges.units; file = k.ranges.file;
+    units = k.ranges.units;
+    file = k.ranges.file;
     below = k.ranges.below;
     values = k.ranges.values;
     fresh = sites-after s t x 0 act.StartStandby land.Full (λ y. IsFresh (log t)) (λ granted. false-true granted) refl (k.ranges.fresh (other x));

@@ -49,7 +49,9 @@ pub record AtWork (s : Scen) (t : List Entry) (x : Site) (h : List Event) (w : W
   pub serves : ServesWork (settings s x) h (site_view s t x)
   pub ledgers : Ledgers s.settings.log (log t) (view s t).start (ledger (settings s x) h)
 
-pub at-work : (s : Scen) (t : List Entry) (x : Site) (h : List Event) (w : Want) → Before s t x h w → is_idle w ≡ false → is_restarted h ≡ true → AtWork s t x h w
+-- an act on the data sets once the job is restarted
+pub at-work : (s : Scen) (t : List Entry) (x : Site) (h : List Event) (w : Want) → Before s t x h w → is_idle w ≡ false → is_restarted h ≡ true
+    → AtWork s t x h w
 at-work s t x h w b acts working =
     let there = b.acts acts in
     let sound = sound-for h w b.idle acts in
@@ -58,7 +60,9 @@ at-work s t x h w b acts working =
 -- the item at hand
 pub item-at : (s : Scen) (t : List Entry) (x : Site) (h : List Event) (item : Item) → Serves (settings s x) h (site_view s t x) → given_last h ≡ Some item
     → (item_at_hand s t x ≡ Some item) × ((site_view s t x).plan ≡ plan_of_job (settings s x) h)
-item-at s t x h item serves given = subst (λ (o : Option Item). IfSome o (λ i. (item_at_hand s t x ≡ Some i) × ((site_view s t x).plan ≡ plan_of_job (settings s x) h))) given serves.0
+item-at s t x h item serves given =
+    subst (λ (o : Option Item). IfSome o
+    (λ i. (item_at_hand s t x ≡ Some i) × ((site_view s t x).plan ≡ plan_of_job (settings s x) h))) given serves.0
 
 -- a fact of the item at hand
 pub of-now : (fact : Item → Type 0) (o : Option Item) (item : Item) → o ≡ Some item → fact item → OfItem o fact
@@ -72,9 +76,12 @@ takes-restarted s t x h want.Item b = of-item s t x (TakesRestarted h) b.due.0
 takes-restarted s t x h _ b = tt
 
 -- a GET
-pub reads-value : (s : Scen) (t : List Entry) (l : Ledger) (unit : UnitId) (k : ℕ) → State s.settings.log (first_value s) (view s t) → Ledgers s.settings.log (log t) (view s t).start l → Last (first_value s) (view s t)
+pub reads-value : (s : Scen) (t : List Entry) (l : Ledger) (unit : UnitId) (k : ℕ) → State s.settings.log (first_value s) (view s t)
+    → Ledgers s.settings.log (log t) (view s t).start l → Last (first_value s) (view s t)
     → IsOpenUnit unit l.units → is_locked unit k l.puts ≡ false → image s t k ≡ slot_of (value_after k (puts t unit) (book s t k))
-reads-value s t l unit k state is last here free = by (has_put unit k (open_puts (log t))) refl ∙ ap (λ (v : Option (List ℕ)). slot_of (value_after k (puts t unit) v)) (value_by-units t k (committed (log t)) (first_value s k))
+reads-value s t l unit k state is last here free =
+    by (has_put unit k (open_puts (log t))) refl ∙ ap (λ (v : Option (List ℕ)). slot_of (value_after k (puts t unit) v)) (value_by-units t k
+    (committed (log t)) (first_value s k))
   where
     others : other_has_put unit k (open_puts (log t)) ≡ false
     others = sym (locked-free (log t) unit k) ∙ sym (ap (is_locked unit k) is.puts) ∙ free
@@ -85,19 +92,23 @@ reads-value s t l unit k state is last here free = by (has_put unit k (open_puts
         sym (uncovered-as_is k (map (λ row. row.undo) (open_puts (log t))) (image s t k) (none-covers unit k (open_puts (log t)) none others))
         ∙ state.undone.back k ∙ ap slot_of (sym (state.unput unit k (is.unended unit here) none (value_at (first_value s) (view s t) k)))
 
+-- by the plan at hand
 reads-of : (s : Scen) (t : List Entry) (x : Site) (h : List Event) (k : ℕ) (plan : Plan) → Before s t x h (want.FileRead k)
-    → AtWork s t x h (want.FileRead k) → is_restarted h ≡ true → Serving (given_last h) (ledger (settings s x) h) plan → IsRead plan k → ReadsBook s t x (act.FileRead k)
+    → AtWork s t x h (want.FileRead k) → is_restarted h ≡ true → Serving (given_last h) (ledger (settings s x) h) plan → IsRead plan k
+    → ReadsBook s t x (act.FileRead k)
 reads-of s t x h k (plans.Put u n value place) b at working serving same =
     of-now (ReadsFor s t x) (item_at_hand s t x) (items.Put serving.0 n value) (item-at s t x h _ b.serves serving.1).0 tt
 reads-of s t x h k (plans.Get n) b at working serving same =
     let unit : UnitId = serving.2.0 in
     of-now (ReadsFor s t x) (item_at_hand s t x) (items.Get serving.0 n) (item-at s t x h _ b.serves serving.1).0
     (subst (IsSeenBy s t n) (sym (ap (λ (o : Opened). unit_named serving.0 o.units) at.serves.0 ∙ serving.2.1))
-    (reads-value s t (ledger (settings s x) h) unit n b.state at.ledgers (b.values at.there at.sound working) (named-open serving.0 (ledger (settings s x) h).units unit serving.2.1) serving.2.2))
+    (reads-value s t (ledger (settings s x) h) unit n b.state at.ledgers (b.values at.there at.sound working)
+    (named-open serving.0 (ledger (settings s x) h).units unit serving.2.1) serving.2.2))
 reads-of s t x h k (plans.Commit u place) b at working serving same = absurd same
 reads-of s t x h k (plans.Roll u place) b at working serving same = absurd same
 reads-of s t x h k (plans.Answer a) b at working serving same = absurd same
 
+-- each act reads for its item what it must
 pub reads-book : (s : Scen) (t : List Entry) (x : Site) (h : List Event) (w : Want) → Before s t x h w → IfSome (act_of s t x h w) (ReadsBook s t x)
 reads-book s t x h want.Nothing b = tt
 reads-book s t x h (want.Exit told) b = tt

@@ -18,6 +18,7 @@ use Rattle.xrf_log_law.specs.BeforeImages.{value_by, has_put, IsUndone}
 use Rattle.xrf_log_law.proofs.BeforeImageLaws.{without, put-undone, put_row, end-undone}
 use Rattle.xrf_history.proofs.Tests.{or-right}
 use Rattle.xrf_log_law.proofs.Tests.{no-clash, or-parts}
+
 -- the units that have ended before the start stay so
 pub push-over : (start : ℕ) (log : List LogRec) (rec : LogRec) → start ≤ length log → AreOver start log → AreOver start (rec ∷ log)
 push-over start log rec within over k unit rrn before early is =
@@ -33,7 +34,9 @@ few unit (u ∷ units) = by (same_unit u unit) (few unit units)
     by true less = omega arith
     by false less = omega arith
 
-fewer : (unit : UnitId) (units : List UnitId) → list_any (λ u. same_unit u unit) units ≡ true → length (filter (λ u. not (same_unit u unit)) units) + 1 ≤ length units
+-- without a unit that is found there is one less
+fewer : (unit : UnitId) (units : List UnitId) → list_any (λ u. same_unit u unit) units ≡ true
+    → length (filter (λ u. not (same_unit u unit)) units) + 1 ≤ length units
 fewer unit [] found = absurd (cc)
 fewer unit (u ∷ units) found = by (same_unit u unit) (fewer unit units) found
   where
@@ -68,6 +71,7 @@ committed-ended unit (Commit u ∷ log) found = by (list_any (same_unit u) (comm
     by true rest found = or-right (same_unit unit u) (has_ended unit log) (rest found)
     by false rest found = either (same_unit unit u) (list_any (same_unit unit) (committed log)) (last (committed log) found) rest
 
+-- the last unit is the last to put
 value_by-last : (puts : UnitId → List (ℕ × List ℕ)) (r : ℕ) (units : List UnitId) (unit : UnitId) (before : Option (List ℕ))
     → value_by puts r (units ++ unit ∷ []) before ≡ value_after r (puts unit) (value_by puts r units before)
 value_by-last puts r [] unit before = refl
@@ -79,7 +83,8 @@ pub commit-value : (first : ℕ → Option (List ℕ)) (puts : UnitId → List (
 commit-value first puts log unit r open_yet = by (list_any (same_unit unit) (committed log)) refl
   where
     by : (b : Bool) → list_any (same_unit unit) (committed log) ≡ b
-        → value_by puts r (if b then committed log else committed log ++ unit ∷ []) (first r) ≡ value_after r (puts unit) (value_by puts r (committed log) (first r))
+        → value_by puts r (if b then committed log else committed log ++ unit ∷ []) (first r) ≡ value_after r (puts unit)
+        (value_by puts r (committed log) (first r))
     by true e = no-clash (has_ended unit log) (committed-ended unit log e) open_yet
     by false e = value_by-last puts r (committed log) unit (first r)
 
@@ -91,7 +96,8 @@ without-keeps unit u r (row ∷ rows) differ = by (same_unit row.unit unit) refl
     by : (b : Bool) → same_unit row.unit unit ≡ b → has_put u r (without unit rows) ≡ has_put u r rows
         → has_put u r (cond (not b) (row ∷ without unit rows) (without unit rows)) ≡ ((row.undo.rrn == r && same_unit row.unit u) || has_put u r rows)
     by true own rest =
-        let other : same_unit row.unit u ≡ false = no_more (same_unit row.unit u) (λ e. no-clash (same_unit u unit) (subst (λ (w : UnitId). same_unit w unit ≡ true) (same_unit-true row.unit u e) own) differ) in
+        let other : same_unit row.unit u ≡ false = no_more (same_unit row.unit u)
+        (λ e. no-clash (same_unit u unit) (subst (λ (w : UnitId). same_unit w unit ≡ true) (same_unit-true row.unit u e) own) differ) in
         rw other (rest ∙ nothing (row.undo.rrn == r))
       where
         no_more : (c : Bool) → (c ≡ true → ⊥) → c ≡ false
@@ -110,8 +116,10 @@ pub record Recorded (size : ℕ) (first : ℕ → Option (List ℕ)) (v : View) 
   pub ordered : AreOrdered log
   pub over : AreOver v.start log
   pub undone : IsUndone (open_puts log) v.image (λ r. slot_of (value_by v.puts r (committed log) (first r)))
-  pub unput : (unit : UnitId) (r : ℕ) → has_ended unit log ≡ false → has_put unit r (open_puts log) ≡ false → (x : Option (List ℕ)) → value_after r (v.puts unit) x ≡ x
+  pub unput : (unit : UnitId) (r : ℕ) → has_ended unit log ≡ false → has_put unit r (open_puts log) ≡ false → (x : Option (List ℕ))
+      → value_after r (v.puts unit) x ≡ x
 
+-- a Put
 put-recorded : (size : ℕ) (first : ℕ → Option (List ℕ)) (v : View) (unit : UnitId) (rrn : ℕ) (before : List ℕ) → Recorded size first v v.log
     → RecordDue size first v (Put unit rrn before) → Recorded size first v (Put unit rrn before ∷ v.log)
 put-recorded size first v unit rrn before is due =
@@ -129,12 +137,14 @@ put-recorded size first v unit rrn before is due =
           (or-parts ((rrn == r) && same_unit unit u) (has_put u r (open_puts v.log)) (subst (λ (l : List Row). has_put u r l ≡ false) rows none)).1 x;
     }
 
+-- a Commit
 commit-recorded : (size : ℕ) (first : ℕ → Option (List ℕ)) (v : View) (unit : UnitId) → Recorded size first v v.log
     → RecordDue size first v (Commit unit) → Recorded size first v (Commit unit ∷ v.log)
 commit-recorded size first v unit is due =
     let open_yet : has_ended unit v.log ≡ false = in_flight-not_ended v.log unit due.0 in
     let rows : open_puts (Commit unit ∷ v.log) ≡ without unit (open_puts v.log) = open_puts-commit v.log unit in
-    let value : (r : ℕ) → value_by v.puts r (committed (Commit unit ∷ v.log)) (first r) ≡ value_after r (v.puts unit) (value_at first v r) = λ r. commit-value first v.puts v.log unit r open_yet in
+    let value : (r : ℕ) → value_by v.puts r (committed (Commit unit ∷ v.log)) (first r) ≡ value_after r (v.puts unit)
+    (value_at first v r) = λ r. commit-value first v.puts v.log unit r open_yet in
     record {
       within = omega (arith, is.within);
       room = omega (arith, ap length (flight-commit v.log unit), fewer unit (flight v.log) due.0, is.room);
@@ -142,7 +152,8 @@ commit-recorded size first v unit is due =
       over = push-over v.start v.log (Commit unit) is.within is.over;
       undone =
           subst (λ (l : List Row). IsUndone l v.image (λ r. slot_of (value_by v.puts r (committed (Commit unit ∷ v.log)) (first r)))) (sym rows)
-          (end-undone unit (open_puts v.log) v.image (λ r. slot_of (value_at first v r)) (λ r. slot_of (value_by v.puts r (committed (Commit unit ∷ v.log)) (first r)))
+          (end-undone unit (open_puts v.log) v.image (λ r. slot_of (value_at first v r))
+          (λ r. slot_of (value_by v.puts r (committed (Commit unit ∷ v.log)) (first r)))
           (λ r put. due.1 r put ∙ ap slot_of (sym (value r)))
           (λ r none. ap slot_of (sym (value r ∙ is.unput unit r open_yet none (value_at first v r)))) is.undone);
       unput = λ u r still none x.
@@ -150,6 +161,7 @@ commit-recorded size first v unit is due =
           is.unput u r parts.1 (sym (without-keeps unit u r (open_puts v.log) parts.0) ∙ subst (λ (l : List Row). has_put u r l ≡ false) rows none) x);
     }
 
+-- a Backout
 backout-recorded : (size : ℕ) (first : ℕ → Option (List ℕ)) (v : View) (unit : UnitId) → Recorded size first v v.log
     → RecordDue size first v (Backout unit) → Recorded size first v (Backout unit ∷ v.log)
 backout-recorded size first v unit is due =
@@ -167,7 +179,9 @@ backout-recorded size first v unit is due =
           is.unput u r parts.1 (sym (without-keeps unit u r (open_puts v.log) parts.0) ∙ subst (λ (l : List Row). has_put u r l ≡ false) rows none) x);
     }
 
-pub recorded : (size : ℕ) (first : ℕ → Option (List ℕ)) (v : View) (rec : LogRec) → Recorded size first v v.log → RecordDue size first v rec → Recorded size first v (rec ∷ v.log)
+-- each record that is due
+pub recorded : (size : ℕ) (first : ℕ → Option (List ℕ)) (v : View) (rec : LogRec) → Recorded size first v v.log → RecordDue size first v rec
+    → Recorded size first v (rec ∷ v.log)
 recorded size first v (Put unit rrn before) is due = put-recorded size first v unit rrn before is due
 recorded size first v (Commit unit) is due = commit-recorded size first v unit is due
 recorded size first v (Backout unit) is due = backout-recorded size first v unit is due

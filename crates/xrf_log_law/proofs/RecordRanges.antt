@@ -37,6 +37,7 @@ abbrev pub IsOf : ℕ → List LogRec → UnitId → Bool → Type 0
 IsOf n log unit true = unit.inc ≡ n
 IsOf n log unit false = uses unit.inc log ≡ true
 
+-- a record is in its ranges, of this unit's incarnation, and of a record of the file
 pub record HandRanged (file n : ℕ) (log : List LogRec) (restarted : Bool) (rec : LogRec) : Type 0 where
   pub ranged : IsLogRecord rec
   pub of : IsOf n log (unit_of rec) restarted
@@ -50,7 +51,9 @@ pub record Working (s : Scen) (t : List Entry) (x : Site) (h : List Event) : Typ
   pub ledgers : Ledgers s.settings.log (log t) (view s t).start (ledger (settings s x) h)
   pub serves : ServesWork (settings s x) h (site_view s t x)
 
-open-unit : (s : Scen) (t : List Entry) (x : Site) (h : List Event) (unit : UnitId) → Working s t x h → IsOpenUnit unit (ledger (settings s x) h).units → IsUnit unit × (unit.inc ≡ number h)
+-- the open units of a job are units of its incarnation
+open-unit : (s : Scen) (t : List Entry) (x : Site) (h : List Event) (unit : UnitId) → Working s t x h
+    → IsOpenUnit unit (ledger (settings s x) h).units → IsUnit unit × (unit.inc ≡ number h)
 open-unit s t x h unit w here =
     let l : Ledger = ledger (settings s x) h in
     let own = units-of (settings s x) h unit here in
@@ -67,14 +70,20 @@ open-unit s t x h unit w here =
       inc,
     )
 
-image-size : (s : Scen) (t : List Entry) (l : Ledger) (unit : UnitId) (k : ℕ) (before : List ℕ) → IsInRanges s → InRanges s t → State s.settings.log (first_value s) (view s t) → Ledgers s.settings.log (log t) (view s t).start l → Last (first_value s) (view s t)
+-- a before-image has the bytes of a slot
+image-size : (s : Scen) (t : List Entry) (l : Ledger) (unit : UnitId) (k : ℕ) (before : List ℕ) → IsInRanges s → InRanges s t
+    → State s.settings.log (first_value s) (view s t) → Ledgers s.settings.log (log t) (view s t).start l → Last (first_value s) (view s t)
     → IsOpenUnit unit l.units → RecordDue s.settings.log (first_value s) (view s t) (Put unit k before) → length before ≡ 32
 image-size s t l unit k before scen ranges state is last here due =
     let read = reads-value s t l unit k state is last here (ap (is_locked unit k) is.puts ∙ locked-free (log t) unit k ∙ due.2) in
-    ap length (due.0 ∙ read) ∙ slot-size (value_after k (puts t unit) (book s t k)) (ranges.values unit k (book s t k) (book-value s t k (λ u o fits. ranges.values u k o fits) (scen.records k)))
+    ap length (due.0 ∙ read) ∙ slot-size (value_after k (puts t unit) (book s t k)) (ranges.values unit k (book s t k)
+    (book-value s t k (λ u o fits. ranges.values u k o fits) (scen.records k)))
 
-work-ranged : (s : Scen) (t : List Entry) (x : Site) (h : List Event) (slot : List ℕ) (rec : LogRec) (plan : Plan) → IsInRanges s → InRanges s t → State s.settings.log (first_value s) (view s t) → Working s t x h
-    → record_of_plan plan slot ≡ Some rec → PlanRrn s.settings.file plan → PlanNamed (ledger (settings s x) h).units plan → RollLast (first_value s) (view s t) plan → RecordDue s.settings.log (first_value s) (view s t) rec
+-- at work
+work-ranged : (s : Scen) (t : List Entry) (x : Site) (h : List Event) (slot : List ℕ) (rec : LogRec) (plan : Plan) → IsInRanges s → InRanges s t
+    → State s.settings.log (first_value s) (view s t) → Working s t x h
+    → record_of_plan plan slot ≡ Some rec → PlanRrn s.settings.file plan → PlanNamed (ledger (settings s x) h).units plan
+    → RollLast (first_value s) (view s t) plan → RecordDue s.settings.log (first_value s) (view s t) rec
     → HandRanged s.settings.file (number h) (log t) true rec
 work-ranged s t x h slot (Put unit rrn before) (plans.Put u k value place) scen ranges state w hand fits named last due =
     let parts = same-put u unit k rrn slot before hand in
@@ -108,7 +117,8 @@ work-ranged s t x h slot (Put unit rrn before) (plans.Commit u place) scen range
 work-ranged s t x h slot (Put unit rrn before) (plans.Roll u place) scen ranges state w hand fits named last due = absurd (cc)
 
 -- in a restart
-restart-ranged : (s : Scen) (t : List Entry) (n : ℕ) (left : List UnitId) (rec : LogRec) → InRanges s t → record_of_restart left ≡ Some rec → RecordDue s.settings.log (first_value s) (view s t) rec → HandRanged s.settings.file n (log t) false rec
+restart-ranged : (s : Scen) (t : List Entry) (n : ℕ) (left : List UnitId) (rec : LogRec) → InRanges s t → record_of_restart left ≡ Some rec
+    → RecordDue s.settings.log (first_value s) (view s t) rec → HandRanged s.settings.file n (log t) false rec
 restart-ranged s t n [] rec ranges hand due = absurd (cc)
 restart-ranged s t n (unit ∷ left) (Backout u) ranges hand due =
     let found = flight-unit u (log t) due.0 ranges.units in
@@ -117,13 +127,18 @@ restart-ranged s t n (unit ∷ left) (Put u rrn before) ranges hand due = absurd
 restart-ranged s t n (unit ∷ left) (Commit u) ranges hand due = absurd (cc)
 
 -- the record at hand
-pub hand-ranged : (s : Scen) (t : List Entry) (x : Site) (h : List Event) (rec : LogRec) → IsInRanges s → InRanges s t → State s.settings.log (first_value s) (view s t)
-    → (is_restarted h ≡ true → Working s t x h × PlanNamed (ledger (settings s x) h).units (plan_of_job (settings s x) h) × RollLast (first_value s) (view s t) (plan_of_job (settings s x) h))
-    → record_at_hand (settings s x) h ≡ Some rec → RecordDue s.settings.log (first_value s) (view s t) rec → HandRanged s.settings.file (number h) (log t) (is_restarted h) rec
+pub hand-ranged : (s : Scen) (t : List Entry) (x : Site) (h : List Event) (rec : LogRec) → IsInRanges s → InRanges s t
+    → State s.settings.log (first_value s) (view s t)
+    → (is_restarted h ≡ true
+    → Working s t x h × PlanNamed (ledger (settings s x) h).units (plan_of_job (settings s x) h)
+    × RollLast (first_value s) (view s t) (plan_of_job (settings s x) h))
+    → record_at_hand (settings s x) h ≡ Some rec → RecordDue s.settings.log (first_value s) (view s t) rec
+    → HandRanged s.settings.file (number h) (log t) (is_restarted h) rec
 hand-ranged s t x h rec scen ranges state at hand due = by (is_restarted h) refl
   where
     by : (b : Bool) → is_restarted h ≡ b → HandRanged s.settings.file (number h) (log t) b rec
     by true is =
         let here = at is in
-        work-ranged s t x h (slot_read h) rec (plan_of_job (settings s x) h) scen ranges state here.0 (sym (plan-hand (settings s x) h is) ∙ hand) (rrn-of (settings s x) h) here.1 here.2 due
+        work-ranged s t x h (slot_read h) rec (plan_of_job (settings s x) h) scen ranges state here.0 (sym (plan-hand (settings s x) h is) ∙ hand)
+        (rrn-of (settings s x) h) here.1 here.2 due
     by false is = restart-ranged s t (number h) (backouts_left (settings s x) h) rec ranges (restart-hand (settings s x) h rec is hand) due

@@ -20,15 +20,19 @@ use Rattle.xrf_log_law.proofs.NewestParts.{scanned-all}
 use Rattle.xrf_log_law.proofs.DueInSequence.{covers-rest, dropped}
 use Rattle.xrf_log_law.proofs.BeforeImageLaws.{left-at}
 use Rattle.xrf_log_law.proofs.Tests.{no-clash}
+
+-- a test that none meets leaves all
 filter-all : (p : UnitId → Bool) (units : List UnitId) → ((unit : UnitId) → p unit ≡ false) → filter (λ unit. not (p unit)) units ≡ units
 filter-all p [] none = refl
 filter-all p (unit ∷ units) none = let e : p unit ≡ false = none unit in rw e (ap (λ (l : List UnitId). unit ∷ l) (filter-all p units none))
 
 -- after a block
-pub scanned-restarts : (size : ℕ) (first : ℕ → Option (List ℕ)) (v : View) (scan : Scanned) (block : List ℕ) (opened : ℕ) (backout : UnitId → Bool) → 0 < size → size % 64 ≡ 0 → State size first v
+pub scanned-restarts : (size : ℕ) (first : ℕ → Option (List ℕ)) (v : View) (scan : Scanned) (block : List ℕ) (opened : ℕ) (backout : UnitId → Bool)
+    → 0 < size → size % 64 ≡ 0 → State size first v
     → scan.slots ≡ size → scan.anchor.start ≡ v.start → IsPart v.log v.start scan.records → opened ≡ 0 → ((unit : UnitId) → backout unit ≡ false)
     → block ≡ flat_map (λ i. bytes_of (v.slot i)) (range_with_len (64 * scan.block) 64)
-    → Restarts size first v (record { scan = after_block scan block; last = record { number = v.number; start = v.start }; opened = opened; backout = backout; undone = 0 })
+    → Restarts size first v
+    (record { scan = after_block scan block; last = record { number = v.number; start = v.start }; opened = opened; backout = backout; undone = 0 })
 scanned-restarts size first v scan block opened backout some even state is_size anchored part none_opened none_backed are =
     let now : IsScan size v.log v.start (after_block scan block) =
     after_block-scan size (log_part v) scan block some even state.whole state.log (omega (arith, state.room)) is_size anchored part are in
@@ -48,7 +52,8 @@ scanned-restarts size first v scan block opened backout some even state is_size 
     }
 
 -- after a Backout
-pub backed-restarts : (size : ℕ) (first : ℕ → Option (List ℕ)) (v : View) (slot : ℕ → Slot) (k : RestartView) (unit : UnitId) → k.scan.ended ≡ true → rows_left_of k ≡ [] → Restarts size first v k
+pub backed-restarts : (size : ℕ) (first : ℕ → Option (List ℕ)) (v : View) (slot : ℕ → Slot) (k : RestartView) (unit : UnitId) → k.scan.ended ≡ true
+    → rows_left_of k ≡ [] → Restarts size first v k
     → Restarts size first (record v { log = Backout unit ∷ v.log; slot = slot })
     (record { scan = k.scan; last = k.last; opened = k.opened + 1; backout = λ u. same_unit u unit || k.backout u; undone = k.undone })
 backed-restarts size first v slot k unit ended none restarts =
@@ -59,14 +64,17 @@ backed-restarts size first v slot k unit ended none restarts =
       scanning = λ e. no-clash k.scan.ended ended e;
       undoing = λ e. record {
         next = omega (arith, before.next);
-        backouts = filter-neither (λ u. same_unit u unit) k.backout (flight k.scan.records) ∙ ap (filter (λ u. not (same_unit u unit))) before.backouts ∙ sym (flight-backout v.log unit);
+        backouts =
+            filter-neither (λ u. same_unit u unit) k.backout (flight k.scan.records) ∙ ap (filter (λ u. not (same_unit u unit))) before.backouts
+            ∙ sym (flight-backout v.log unit);
         left = before.left;
         within = λ r covered. no-clash false (sym (sym covered ∙ ap (covers r) none)) refl;
       };
     }
 
 -- after an UNDO
-pub undone-restarts : (size : ℕ) (first : ℕ → Option (List ℕ)) (v : View) (k : RestartView) (rrn : ℕ) (own : List ℕ) (rest : List Undo) → k.scan.ended ≡ true → rows_left_of k ≡ record { rrn = rrn; before = own } ∷ rest
+pub undone-restarts : (size : ℕ) (first : ℕ → Option (List ℕ)) (v : View) (k : RestartView) (rrn : ℕ) (own : List ℕ) (rest : List Undo)
+    → k.scan.ended ≡ true → rows_left_of k ≡ record { rrn = rrn; before = own } ∷ rest
     → Restarts size first v k
     → Restarts size first (record v { image = λ i. elim (i == rrn) [ true ↦ own | false ↦ v.image i ] })
     (record { scan = k.scan; last = k.last; opened = k.opened; backout = k.backout; undone = k.undone + 1 })
@@ -89,7 +97,8 @@ undone-restarts size first v k rrn own rest ended head restarts =
     }
 
 -- another slot of the log
-pub moved-restarts : (size : ℕ) (first : ℕ → Option (List ℕ)) (v : View) (slot : ℕ → Slot) (k : RestartView) → Restarts size first v k → Restarts size first (record v { slot = slot }) k
+pub moved-restarts : (size : ℕ) (first : ℕ → Option (List ℕ)) (v : View) (slot : ℕ → Slot) (k : RestartView) → Restarts size first v k
+    → Restarts size first (record v { slot = slot }) k
 moved-restarts size first v slot k restarts = record {
   slots = restarts.slots;
   keypoint = restarts.keypoint;

@@ -9,7 +9,8 @@ pub same-record : (a b : LogRec) → Some a ≡ Some b → a ≡ b
 same-record a b same = cc
 
 -- Puts that are the same have one unit and one record number
-pub same-put : (u unit : UnitId) (k rrn : ℕ) (slot before : List ℕ) → ◌≡◌ {A = Option LogRec} (Some (Put u k slot)) (Some (Put unit rrn before)) → (u ≡ unit) × (k ≡ rrn)
+pub same-put : (u unit : UnitId) (k rrn : ℕ) (slot before : List ℕ) → ◌≡◌ {A = Option LogRec} (Some (Put u k slot)) (Some (Put unit rrn before))
+    → (u ≡ unit) × (k ≡ rrn)
 same-put u unit k rrn slot before same = (cc, cc)
 
 -- and so one unit
@@ -23,4 +24,3 @@ same-commit u unit same = cc
 -- and so are Backouts
 pub same-backout : (u unit : UnitId) → ◌≡◌ {A = Option LogRec} (Some (Backout u)) (Some (Backout unit)) → u ≡ unit
 same-backout u unit same = cc
-

@@ -16,21 +16,26 @@ use Rattle.xrf_log_law.specs.LogSlots.{nth_old, LogStands, LogView}
 use Rattle.xrf_log_law.specs.LogParts.{IsPart, IsScan}
 use Rattle.xrf_log_law.proofs.SlotWrites.{some-within}
 use Rattle.xrf_log_law.proofs.Tests.{less-of-true, most-of-true, eq-of-true}
+
 -- the slots in the bytes of a block
 mapped-flat : (f : ℕ → Slot) (xs : List ℕ) → flat_map (λ i. bytes_of (f i)) xs ≡ flat_map bytes_of (map f xs)
 mapped-flat f [] = refl
 mapped-flat f (x ∷ xs) = ap (λ rest. bytes_of (f x) ++ rest) (mapped-flat f xs)
 
+-- a slot among those of a range
 mapped-slot : (f : ℕ → Slot) (a n j : ℕ) → j < n → slot_of (map f (range_with_len a n)) j ≡ f (a + j)
 mapped-slot f a zero j less = absurd (omega arith)
 mapped-slot f a (suc n) zero less = ap f (omega arith)
 mapped-slot f a (suc n) (suc j) less = mapped-slot f (a + 1) n j (omega arith) ∙ ap f (omega arith)
 
-pub slot_in-range : (f : ℕ → Slot) (a n j : ℕ) → ((i : ℕ) → length (f i).body ≡ 63) → j < n → slot_in (flat_map (λ i. bytes_of (f i)) (range_with_len a n)) j ≡ f (a + j)
+-- a slot in the bytes of a block
+pub slot_in-range : (f : ℕ → Slot) (a n j : ℕ) → ((i : ℕ) → length (f i).body ≡ 63) → j < n
+    → slot_in (flat_map (λ i. bytes_of (f i)) (range_with_len a n)) j ≡ f (a + j)
 slot_in-range f a n j whole less =
     let count : length (map f (range_with_len a n)) ≡ n = length-map (range_with_len a n) f ∙ length-range_with_len a n in
     ap (λ bytes. slot_in bytes j) (mapped-flat f (range_with_len a n))
-    ∙ slot_in-flat_map (map f (range_with_len a n)) j (λ i within. ap (λ (slot : Slot). length slot.body) (mapped-slot f a n i (omega (arith, count))) ∙ whole (a + i)) (omega (arith, count))
+    ∙ slot_in-flat_map (map f (range_with_len a n)) j (λ i within. ap (λ (slot : Slot). length slot.body) (mapped-slot f a n i (omega (arith, count)))
+    ∙ whole (a + i)) (omega (arith, count))
     ∙ mapped-slot f a n j less
 
 -- a number that gives no record is past the log
@@ -38,11 +43,16 @@ none-past : (log : List LogRec) (k : ℕ) → nth_old log k ≡ None → length 
 none-past [] k is = omega arith
 none-past (first ∷ log) k is = by (k == length log) refl is (none-past log k)
   where
-    by : (b : Bool) → (k == length log) ≡ b → (if b then Some first else nth_old log k) ≡ None → (nth_old log k ≡ None → length log ≤ k) → length (first ∷ log) ≤ k
+    by : (b : Bool) → (k == length log) ≡ b → (if b then Some first else nth_old log k) ≡ None → (nth_old log k ≡ None → length log ≤ k)
+        → length (first ∷ log) ≤ k
     by true e is rest = absurd (cc)
-    by false e is rest = let past : length log ≤ k = rest is in let differ : k ≡ length log → ⊥ = λ same. (let s : (k == length log) ≡ true = grind (arith, common_steps) in absurd (cc)) in omega (arith, differ)
+    by false e is rest =
+        let past : length log ≤ k = rest is in let differ : k ≡ length log
+        → ⊥ = λ same. (let s : (k == length log) ≡ true = grind (arith, common_steps) in absurd (cc)) in omega (arith, differ)
 
-push-part : (log : List LogRec) (start p : ℕ) (known : List LogRec) (rec : LogRec) → p ≡ start + length known → nth_old log p ≡ Some rec → IsPart log start known → IsPart log start (rec ∷ known)
+-- the next record joins a part
+push-part : (log : List LogRec) (start p : ℕ) (known : List LogRec) (rec : LogRec) → p ≡ start + length known → nth_old log p ≡ Some rec
+    → IsPart log start known → IsPart log start (rec ∷ known)
 push-part log start p known rec next is part = record {
   within = let less : p < length log = some-within log p rec is in omega arith;
   same = λ j less. by j less (j == length known) refl;
@@ -63,6 +73,7 @@ pub record IsRunOf (log : List LogRec) (start most : ℕ) (records : List LogRec
   pub most_taken : length records ≤ most
   pub all : length records < most → start + length records ≡ length log
 
+-- a run over slots that give the log's records is a part of it
 pub run-part : (count : ℕ) (slot : ℕ → Slot) (k p : ℕ) (known log : List LogRec) (start : ℕ) → p ≡ start + length known → IsPart log start known
     → ((j : ℕ) → j < count → record_at (slot (k + j)) (p + j) ≡ nth_old log (p + j)) → IsRunOf log start (length known + count) (run_of slot count k p known)
 run-part zero slot k p known log start next part reads = record { part = part; most_taken = omega arith; all = λ less. absurd (omega arith) }
@@ -73,7 +84,9 @@ run-part (suc count) slot k p known log start next part reads =
     rw e (rw f (reads (suc j) (omega arith)))))
   where
     first : record_at (slot k) p ≡ nth_old log p
-    first = let e : k + 0 ≡ k = omega arith in let f : p + 0 ≡ p = omega arith in subst (λ (n : ℕ). record_at (slot n) p ≡ nth_old log p) e (subst (λ (m : ℕ). record_at (slot (k + 0)) m ≡ nth_old log m) f (reads 0 (omega arith)))
+    first =
+        let e : k + 0 ≡ k = omega arith in let f : p + 0 ≡ p = omega arith in subst (λ (n : ℕ). record_at (slot n) p ≡ nth_old log p) e
+        (subst (λ (m : ℕ). record_at (slot (k + 0)) m ≡ nth_old log m) f (reads 0 (omega arith)))
 
     by : (o : Option LogRec) → o ≡ nth_old log p
         → ((rec : LogRec) → IsPart log start (rec ∷ known) → IsRunOf log start (length (rec ∷ known) + count) (run_of slot count (k + 1) (p + 1) (rec ∷ known)))
@@ -93,11 +106,13 @@ in_round size n j some even less =
     let r : ℕ = n % size in
     omega (arith, div-add-mod r 64, div-add-mod size 64, mod-lt n some)
 
+-- a place that is some on, in one round
 round_on : (size n j : ℕ) → n % size + j < size → (n + j) % size ≡ n % size + j
 round_on size n j less =
     let whole : n / size * size + (n % size + j) ≡ n + j = grind (arith, common_steps, div-add-mod n size) in
     subst (λ (m : ℕ). m % size ≡ n % size + j) whole (mod-mul-add (n / size) size (n % size + j) less)
 
+-- what a slot of a block gives is the record of the log
 read-one : (size n b j : ℕ) (v : LogView) (bytes : List ℕ) → 0 < size → size % 64 ≡ 0 → ((i : ℕ) → length (v.slot i).body ≡ 63) → LogStands size v → v.start ≤ n
     → block_of_record size n ≡ b → bytes ≡ flat_map (λ i. bytes_of (v.slot i)) (range_with_len (64 * b) 64) → j < 64 - place_of_record size n
     → record_at (slot_in bytes (place_of_record size n + j)) (n + j) ≡ nth_old v.log (n + j)
@@ -109,20 +124,25 @@ read-one size n b j v bytes some even whole stands from block are less =
     ∙ ap (λ (slot : Slot). record_at slot (n + j)) (slot_in-range v.slot (64 * b) 64 (place_of_record size n + j) whole (omega arith) ∙ ap v.slot place)
     ∙ stands.slots (n + j) (omega arith)
 
-pub after_block-scan : (size : ℕ) (v : LogView) (scan : Scanned) (bytes : List ℕ) → 0 < size → size % 64 ≡ 0 → ((i : ℕ) → length (v.slot i).body ≡ 63) → LogStands size v
+-- so a block takes the scan on
+pub after_block-scan : (size : ℕ) (v : LogView) (scan : Scanned) (bytes : List ℕ) → 0 < size → size % 64 ≡ 0 → ((i : ℕ) → length (v.slot i).body ≡ 63)
+    → LogStands size v
     → length v.log ≤ v.start + size → scan.slots ≡ size → scan.anchor.start ≡ v.start → IsPart v.log v.start scan.records
     → bytes ≡ flat_map (λ i. bytes_of (v.slot i)) (range_with_len (64 * scan.block) 64) → IsScan size v.log v.start (after_block scan bytes)
 after_block-scan size v scan bytes some even whole stands room is_size anchor part are = record {
   slots = is_size;
   anchor = anchor;
   part = run.part;
-  done = by (nat_lt (length (records_after scan bytes)) (length scan.records + reach_of scan)) (nat_le scan.slots (length (records_after scan bytes))) refl refl;
+  done =
+      by (nat_lt (length (records_after scan bytes)) (length scan.records + reach_of scan))
+      (nat_le scan.slots (length (records_after scan bytes))) refl refl;
 }
   where
     next : ℕ
     next = next_of scan
 
-    reads : (j : ℕ) → j < reach_of scan → record_at (slot_in bytes (place_of_record scan.slots (next_of scan) + j)) (next_of scan + j) ≡ nth_old v.log (next_of scan + j)
+    reads : (j : ℕ) → j < reach_of scan → record_at (slot_in bytes (place_of_record scan.slots (next_of scan) + j)) (next_of scan + j) ≡ nth_old v.log
+        (next_of scan + j)
     reads j less =
         subst (λ (m : ℕ). record_at (slot_in bytes (place_of_record m (next_of scan) + j)) (next_of scan + j) ≡ nth_old v.log (next_of scan + j)) (sym is_size)
         (inner (block_of_record scan.slots (next_of scan) == scan.block) refl less)
@@ -139,10 +159,14 @@ after_block-scan size v scan bytes some even whole stands room is_size anchor pa
         inner false e less = absurd (omega arith)
 
     run : IsRunOf v.log v.start (length scan.records + reach_of scan) (records_after scan bytes)
-    run = run-part (reach_of scan) (slot_in bytes) (place_of_record scan.slots (next_of scan)) (next_of scan) scan.records v.log v.start (omega (arith, anchor)) part reads
+    run = run-part (reach_of scan) (slot_in bytes) (place_of_record scan.slots (next_of scan)) (next_of scan) scan.records v.log v.start
+        (omega (arith, anchor)) part reads
 
-    by : (a b : Bool) → nat_lt (length (records_after scan bytes)) (length scan.records + reach_of scan) ≡ a → nat_le scan.slots (length (records_after scan bytes)) ≡ b → (a || b) ≡ true
+    by : (a b : Bool) → nat_lt (length (records_after scan bytes)) (length scan.records + reach_of scan) ≡ a
+        → nat_le scan.slots (length (records_after scan bytes)) ≡ b → (a || b) ≡ true
         → v.start + length (records_after scan bytes) ≡ length v.log
     by true b e f is = run.all (less-of-true (length (records_after scan bytes)) (length scan.records + reach_of scan) e)
-    by false true e f is = let over : scan.slots ≤ length (records_after scan bytes) = most-of-true scan.slots (length (records_after scan bytes)) f in omega (arith, is_size, run.part.within)
+    by false true e f is =
+        let over : scan.slots ≤ length (records_after scan bytes) = most-of-true scan.slots (length (records_after scan bytes)) f in omega
+        (arith, is_size, run.part.within)
     by false false e f is = absurd (cc)

@@ -37,7 +37,9 @@ OwnServes s t x job l a = OwnAfter s t x a l job (λ g. Serves (settings s x) g 
 abbrev FailServes : Scen → List Entry → Site → List Event → Landing → Want → Act → Type 0
 FailServes s t x h cut w a = may_fail a ≡ true → Serves (settings s x) (ActFailed w (now t) ∷ h) (site_after s t x a (land.Fail cut))
 
-fail-serves : (s : Scen) (t : List Entry) (x : Site) (h : List Event) (cut : Landing) (w : Want) → Serves (settings s x) h (site_view s t x) → IfSome (act_of s t x h w) (FailServes s t x h cut w)
+-- after a failure
+fail-serves : (s : Scen) (t : List Entry) (x : Site) (h : List Event) (cut : Landing) (w : Want) → Serves (settings s x) h (site_view s t x)
+    → IfSome (act_of s t x h w) (FailServes s t x h cut w)
 fail-serves s t x h cut want.Nothing k = tt
 fail-serves s t x h cut (want.Exit told) k = tt
 fail-serves s t x h cut want.Item k = of-item s t x (FailServes s t x h cut want.Item) (λ fails. false-true fails)
@@ -51,7 +53,9 @@ fail-serves s t x h cut _ k = λ fails. (k.0, k.1, λ there sound. unsound h fal
 abbrev LostServes : Scen → List Entry → Site → List Event → Act → Type 0
 LostServes s t x h a = is_signal a ≡ true → UnlessGone a (Serves (settings s x) (handed s t x (now t) h a ∷ h) (site_after s t x a land.Lost))
 
-lost-serves : (s : Scen) (t : List Entry) (x : Site) (h : List Event) (w : Want) → IfSome (act_of s t x h w) (Served s t x h) → IfSome (act_of s t x h w) (LostServes s t x h)
+-- after a signal that is lost
+lost-serves : (s : Scen) (t : List Entry) (x : Site) (h : List Event) (w : Want) → IfSome (act_of s t x h w) (Served s t x h)
+    → IfSome (act_of s t x h w) (LostServes s t x h)
 lost-serves s t x h (want.Signal1 signal) serves = λ e. serves
 lost-serves s t x h (want.Signal2 signal) serves = λ e. serves
 lost-serves s t x h want.Nothing serves = tt
@@ -67,7 +71,8 @@ own-serves s t x h a land.Full is may b =
     (subst (λ (o : Option Act). IfSome o (Served s t x h)) is (served-after s t x h (next (settings s x) h) b))
 own-serves s t x h a land.Lost is may b =
     full-after s t x h a (λ g. Serves (settings s x) g (site_after s t x a land.Lost)) (is-own s t x h (next (settings s x) h) a is)
-    (subst (λ (o : Option Act). IfSome o (LostServes s t x h)) is (lost-serves s t x h (next (settings s x) h) (served-after s t x h (next (settings s x) h) b)) may)
+    (subst (λ (o : Option Act). IfSome o (LostServes s t x h)) is
+    (lost-serves s t x h (next (settings s x) h) (served-after s t x h (next (settings s x) h) b)) may)
 own-serves s t x h a (land.Stop cut) is may b = tt
 own-serves s t x h a (land.Fail cut) is may b =
     fail-after s t x h a cut (λ g. Serves (settings s x) g (site_after s t x a (land.Fail cut))) is may
@@ -77,6 +82,7 @@ own-serves s t x h a (land.Fail cut) is may b =
 abbrev SiteServes : Scen → List Entry → Site → Option (List Event) → Type 0
 SiteServes s t x job = IfSome job (λ h. Serves (settings s x) h (site_view s t x))
 
+-- at both sites
 sites-serve : (s : Scen) (t : List Entry) (x : Site) (i : ℕ) (a : Act) (l : Land) → OwnServes s t x (hist s t x) l a
     → after_other a (hist s t (other x)) ≡ hist s t (other x) → SitesServe s t → SitesServe s (made t x i a l ∷ t)
 sites-serve s t site.A i a l own same before site.A = own
@@ -106,7 +112,8 @@ serve-kinds s t k = record {
       (own-other s t x h a (hist s t (other x)) is) k.serves;
   quiet = λ x i a quiet.
       sites-serve s t x i a land.Full
-      (quiet-after s t x a (hist s t x) (λ g. Serves (settings s x) g (site_after s t x a land.Full)) quiet (quiet-serves s t x a (hist s t x) quiet (k.serves x)))
+      (quiet-after s t x a (hist s t x) (λ g. Serves (settings s x) g (site_after s t x a land.Full)) quiet
+      (quiet-serves s t x a (hist s t x) quiet (k.serves x)))
       (quiet-other a (hist s t (other x)) quiet) k.serves;
   stop = λ x i cut. sites-serve s t x i act.NoAct (land.Stop cut) tt refl k.serves;
   active = λ x. sites-serve s t x 0 act.StartActive land.Full (tt, λ e. (refl, refl), λ there. false-true there, λ e. false-true (sym e)) refl k.serves;

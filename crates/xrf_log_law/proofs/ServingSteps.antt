@@ -43,7 +43,8 @@ serving-planned l (items.Get name rrn) = by (unit_named name l.units) refl
         (λ c. (name, refl, (unit, e, c))))
 serving-planned l (items.Commit name) = by (unit_named name l.units) refl
   where
-    hot : (unit : UnitId) (b : Bool) → unit_named name l.units ≡ Some unit → Serving (Some (items.Commit name)) (if b then l else closed l unit) (if b then plans.Commit unit l.next else plans.Answer Done)
+    hot : (unit : UnitId) (b : Bool) → unit_named name l.units ≡ Some unit
+        → Serving (Some (items.Commit name)) (if b then l else closed l unit) (if b then plans.Commit unit l.next else plans.Answer Done)
     hot unit true e = (name, refl, λ here. e)
     hot unit false e = tt
 
@@ -52,7 +53,8 @@ serving-planned l (items.Commit name) = by (unit_named name l.units) refl
     by (Some unit) e = hot unit (is_hot unit l.puts) e
 serving-planned l (items.Roll name) = by (unit_named name l.units) refl
   where
-    hot : (unit : UnitId) (b : Bool) → unit_named name l.units ≡ Some unit → Serving (Some (items.Roll name)) (if b then l else closed l unit) (if b then plans.Roll unit l.next else plans.Answer Done)
+    hot : (unit : UnitId) (b : Bool) → unit_named name l.units ≡ Some unit
+        → Serving (Some (items.Roll name)) (if b then l else closed l unit) (if b then plans.Roll unit l.next else plans.Answer Done)
     hot unit true e = (name, refl, λ here. e)
     hot unit false e = tt
 
@@ -68,19 +70,24 @@ gone u unit units same here =
     let left = open-left u unit units here in
     no-clash (same_unit u unit) (subst (λ (w : UnitId). same_unit u w ≡ true) same (same_unit-refl u)) left.1
 
-pub serving-recorded : (given : Option Item) (l : Ledger) (plan : Plan) (slot : List ℕ) (rec : LogRec) → record_of_plan plan slot ≡ Some rec → Serving given l plan → Serving given (after_record rec l) plan
+-- so the plan serves its item still
+pub serving-recorded : (given : Option Item) (l : Ledger) (plan : Plan) (slot : List ℕ) (rec : LogRec) → record_of_plan plan slot ≡ Some rec
+    → Serving given l plan → Serving given (after_record rec l) plan
 serving-recorded given l (plans.Put u k value place) slot (Put unit rrn before) hand serving = serving
 serving-recorded given l (plans.Put u k value place) slot (Commit unit) hand serving = absurd (cc)
 serving-recorded given l (plans.Put u k value place) slot (Backout unit) hand serving = absurd (cc)
-serving-recorded given l (plans.Commit u place) slot (Commit unit) hand serving = (serving.0, serving.1, λ here. gone u unit l.units (same-commit u unit hand) here)
+serving-recorded given l (plans.Commit u place) slot (Commit unit) hand serving =
+    (serving.0, serving.1, λ here. gone u unit l.units (same-commit u unit hand) here)
 serving-recorded given l (plans.Commit u place) slot (Put unit rrn before) hand serving = absurd (cc)
 serving-recorded given l (plans.Commit u place) slot (Backout unit) hand serving = absurd (cc)
-serving-recorded given l (plans.Roll u place) slot (Backout unit) hand serving = (serving.0, serving.1, λ here. gone u unit l.units (same-backout u unit hand) here)
+serving-recorded given l (plans.Roll u place) slot (Backout unit) hand serving =
+    (serving.0, serving.1, λ here. gone u unit l.units (same-backout u unit hand) here)
 serving-recorded given l (plans.Roll u place) slot (Put unit rrn before) hand serving = absurd (cc)
 serving-recorded given l (plans.Roll u place) slot (Commit unit) hand serving = absurd (cc)
 serving-recorded given l (plans.Answer a) slot rec hand serving = tt
 serving-recorded given l (plans.Get k) slot rec hand serving = absurd (cc)
 
+-- and after a keypoint
 pub serving-keyed : (given : Option Item) (l : Ledger) (start : ℕ) (plan : Plan) → Serving given l plan → Serving given (keyed l start) plan
 serving-keyed given l start (plans.Put u k value place) serving = serving
 serving-keyed given l start (plans.Commit u place) serving = serving

@@ -18,8 +18,6 @@ use Rattle.xrf_log_law.proofs.LedgerSteps.{found-last, new-differs, open-left}
 use Rattle.xrf_log_law.proofs.Tests.{no-clash, or-cases}
 use Rattle.xrf_base.specs.declared.items.Item.TheVariants as items
 
-
-
 -- a BEGIN opens another unit
 shut-opened : (l : Ledger) (name : List ℕ) (unit : UnitId) → IsShut l unit → IsShut (opened l name) unit
 shut-opened l name unit is = record {
@@ -31,6 +29,7 @@ shut-opened l name unit is = record {
       (λ e. no-clash (same_unit (record { inc = l.inc; serial = l.begun + 1 }) unit) e (new-differs l.inc (l.begun + 1) l.begun unit is.begun (omega arith)));
 }
 
+-- where it is answered Done
 shut-begun : (l : Ledger) (name : List ℕ) (answer : ItemAnswer) (unit : UnitId) → IsShut l unit → IsShut (after_begin l name answer) unit
 shut-begun l name Done unit is = shut-opened l name unit is
 shut-begun l name _ unit is = is
@@ -39,6 +38,7 @@ shut-begun l name _ unit is = is
 shut-closed : (l : Ledger) (u unit : UnitId) → IsShut l unit → IsShut (closed l u) unit
 shut-closed l u unit is = record { begun = is.begun; shut = λ here. is.shut (open-left unit u l.units here).0 }
 
+-- also at once
 shut-ended : (l : Ledger) (o : Option UnitId) (unit : UnitId) → IsShut l unit → IsShut (after_end l o) unit
 shut-ended l None unit is = is
 shut-ended l (Some u) unit is = by (is_hot u l.puts)

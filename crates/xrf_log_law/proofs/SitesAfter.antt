@@ -44,7 +44,8 @@ full-after s t x h _ fact own goes = goes
 pub fail-after : (s : Scen) (t : List Entry) (x : Site) (h : List Event) (a : Act) (cut : Landing) (fact : List Event → Type 0)
     → act_of s t x h (next (settings s x) h) ≡ Some a → may_fail a ≡ true
     → fact (ActFailed (next (settings s x) h) (now t) ∷ h) → OwnAfter s t x a (land.Fail cut) (Some h) fact
-fail-after s t x h a cut fact is may fails = subst (λ (w : Want). fact (ActFailed w (now t) ∷ h)) (sym (want-tried s t x h (next (settings s x) h) a is may)) fails
+fail-after s t x h a cut fact is may fails =
+    subst (λ (w : Want). fact (ActFailed w (now t) ∷ h)) (sym (want-tried s t x h (next (settings s x) h) a is may)) fails
 
 -- the job of an act: it has made the act, or knows that it failed, or is gone
 pub own-after : (s : Scen) (t : List Entry) (x : Site) (h : List Event) (a : Act) (l : Land) (fact : List Event → Type 0)
@@ -81,6 +82,7 @@ act-other : (a : Act) (job : Option (List Event)) → is_act a ≡ true → afte
 act-other act.Tick job own = absurd (cc)
 act-other _ job own = refl
 
+-- an act is of no other job
 pub own-other : (s : Scen) (t : List Entry) (x : Site) (h : List Event) (a : Act) (job : Option (List Event)) → act_of s t x h (next (settings s x) h) ≡ Some a
     → after_other a job ≡ job
 own-other s t x h a job is = act-other a job (is-own s t x h (next (settings s x) h) a is)

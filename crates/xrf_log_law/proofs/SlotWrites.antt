@@ -13,14 +13,18 @@ use Rattle.xrf_trace.specs.Devices.{with_gate, with_body, close_at, body_at, ope
 use Rattle.xrf_trace.specs.declared.entry.Land.{Land}
 use Rattle.xrf_log_law.specs.LogSlots.{AtEnd, HoldsLast, LogStands, LogView, nth_old}
 use Rattle.xrf_log_law.proofs.Tests.{eq-false, eq-of-false, eq-of-true, eq-true}
+
+-- a round on is a round further
 mul_step : (s a d : ℕ) → s * a + s ≤ s * (a + 1 + d)
 mul_step s a d = grind (arith, common_steps)
 
+-- of two rounds the later is a round further
 mul_next : (s a b : ℕ) → a < b → s * a + s ≤ s * b
 mul_next s a b less =
     let e : a + 1 + (b - a - 1) ≡ b = omega arith in
     subst (λ (n : ℕ). s * a + s ≤ s * n) e (mul_step s a (b - a - 1))
 
+-- later rounds are no nearer
 mul_mono : (s a b : ℕ) → a ≤ b → s * a ≤ s * b
 mul_mono s a b less = grind (arith, common_steps)
 
@@ -51,6 +55,7 @@ pub record Keeps (size n : ℕ) (v : LogView) (change : Slot → Slot) (after : 
   pub next : length v.log ≡ n
   pub room : n < v.start + size
 
+-- from the start on each slot gives its record
 changed-slots : (size n : ℕ) (v : LogView) (change : Slot → Slot) (after : List LogRec) → LogStands size v → Keeps size n v change after
     → (k : ℕ) → v.start ≤ k → (b : Bool) → (k % size == n % size) ≡ b
     → record_at (elim b [ true ↦ change (v.slot (k % size)) | false ↦ v.slot (k % size) ]) k ≡ nth_old after k
@@ -66,6 +71,7 @@ changed-slots size n v change after stands keeps k from true same =
 changed-slots size n v change after stands keeps k from false differ =
     stands.slots k from ∙ sym (keeps.there k (λ same. eq-of-false (k % size) (n % size) differ (ap (λ (i : ℕ). i % size) same)))
 
+-- the slots that were not used are closed
 changed-unused : (size n : ℕ) (v : LogView) (change : Slot → Slot) (after : List LogRec) → LogStands size v → Keeps size n v change after
     → (i : ℕ) → length after ≤ i → i < size → (b : Bool) → (i == n % size) ≡ b
     → is_open (elim b [ true ↦ change (v.slot i) | false ↦ v.slot i ]) ≡ false
@@ -82,7 +88,8 @@ pub some-within : (log : List LogRec) (k : ℕ) (rec : LogRec) → nth_old log k
 some-within [] k rec is = absurd (cc)
 some-within (first ∷ log) k rec is = by (k == length log) refl is (some-within log k rec)
   where
-    by : (b : Bool) → (k == length log) ≡ b → (if b then Some first else nth_old log k) ≡ Some rec → (nth_old log k ≡ Some rec → k < length log) → k < length (first ∷ log)
+    by : (b : Bool) → (k == length log) ≡ b → (if b then Some first else nth_old log k) ≡ Some rec → (nth_old log k ≡ Some rec → k < length log)
+        → k < length (first ∷ log)
     by true e is rest = let same : k ≡ length log = grind (arith, common_steps) in omega arith
     by false e is rest = let less : k < length log = rest is in omega arith
 
@@ -107,6 +114,7 @@ kept-last size n v change after i keeps differs holds =
         let same : holds.number + size ≡ n = omega (arith, most, holds.newest, keeps.next) in
         absurd (differs (sym holds.place ∙ sym (add-mod_right holds.number size) ∙ ap (λ (k : ℕ). k % size) same))
 
+-- each open slot holds its last record
 changed-last : (size n : ℕ) (v : LogView) (change : Slot → Slot) (after : List LogRec) → LogStands size v → Keeps size n v change after
     → (i : ℕ) (b : Bool) → (i == n % size) ≡ b → is_open (elim b [ true ↦ change (v.slot i) | false ↦ v.slot i ]) ≡ true
     → HoldsLast size after i (elim b [ true ↦ change (v.slot i) | false ↦ v.slot i ])
@@ -116,6 +124,7 @@ changed-last size n v change after stands keeps i true same opened =
 changed-last size n v change after stands keeps i false differ opened =
     kept-last size n v change after i keeps (eq-of-false i (n % size) differ) (stands.last i opened)
 
+-- so the slots stand against the log after the change
 pub changed : (size n : ℕ) (v : LogView) (change : Slot → Slot) (after : List LogRec) → LogStands size v → Keeps size n v change after
     → LogStands size (record { log = after; start = v.start; slot = changed_at (n % size) change v.slot })
 changed size n v change after stands keeps = record {
@@ -128,6 +137,7 @@ changed size n v change after stands keeps = record {
 closed-none : (slot : Slot) (k : ℕ) → is_open slot ≡ false → record_at slot k ≡ None
 closed-none slot k closed = rw closed refl
 
+-- an open slot gives the record that it spells, at its number
 opened-some : (slot : Slot) (n k : ℕ) (rec : LogRec) → is_open slot ≡ true → log_reading slot.body ≡ Some (n, rec)
     → record_at slot k ≡ (if n == k then Some rec else None)
 opened-some slot n k rec opened spelled = rw opened (rw spelled refl)
@@ -139,11 +149,13 @@ past-none (rec ∷ log) k past =
     let e : (k == length log) ≡ false = eq-false k (length log) (λ same. omega arith) in
     rw e (past-none log k (omega arith))
 
+-- a record that joins leaves the other numbers
 pub push-other : (log : List LogRec) (rec : LogRec) (k n : ℕ) → length log ≡ n → (k ≡ n → ⊥) → nth_old (rec ∷ log) k ≡ nth_old log k
 push-other log rec k n next differ =
     let e : (k == length log) ≡ false = eq-false k (length log) (λ same. differ (same ∙ next)) in
     rw e refl
 
+-- at its number and beyond it alone is there
 pub push-at : (log : List LogRec) (rec : LogRec) (k n : ℕ) → length log ≡ n → n ≤ k → nth_old (rec ∷ log) k ≡ (if n == k then Some rec else None)
 push-at log rec k n next from = by (n == k) refl
   where
@@ -161,6 +173,7 @@ close_same gate slot opened e =
     let g : gate ≡ slot.gate = eq-of-true gate OPEN e ∙ sym (eq-of-true slot.gate OPEN opened) in
     ap (λ (b : ℕ). record { gate = b; body = slot.body }) g
 
+-- a CLOSE of an open slot that gives no record gives none
 close_none : (o : Option (List ℕ)) (slot : Slot) (k : ℕ) → is_open slot ≡ true → record_at slot k ≡ None → record_at (with_gate o slot) k ≡ None
 close_none None slot k opened none = none
 close_none (Some []) slot k opened none = none
@@ -170,6 +183,7 @@ close_none (Some (gate ∷ rest)) slot k opened none = by (gate == OPEN) refl
     by true e = ap (λ (found : Slot). record_at found k) (close_same gate slot opened e) ∙ none
     by false e = closed-none (record { gate = gate; body = slot.body }) k e
 
+-- the slot of the next number gives no record of that number or beyond
 in_reach : (size n : ℕ) (v : LogView) → LogStands size v → AtEnd size n v → (k : ℕ) → k % size ≡ n % size → n ≤ k → record_at (v.slot (n % size)) k ≡ None
 in_reach size n v stands at k residue from =
     subst (λ (i : ℕ). record_at (v.slot i) k ≡ None) residue (stands.slots k (omega (arith, at.start)) ∙ past-none v.log k (omega (arith, at.next)))
@@ -181,6 +195,7 @@ used size n v stands at opened within =
     subst (λ (i : ℕ). is_open (v.slot i) ≡ false) (sym (mod-eq_of_lt within)) (stands.unused n (omega (arith, at.next)) within) in
     let clash : false ≡ true = sym closed ∙ opened in absurd (cc)
 
+-- a body leaves the gate
 pub body_gate : (o : Option (List ℕ)) (slot : Slot) → is_open slot ≡ false → is_open (with_body o slot) ≡ false
 body_gate None slot closed = closed
 body_gate (Some body) slot closed = closed
@@ -191,18 +206,21 @@ opened_gate None slot e = absurd (cc)
 opened_gate (Some []) slot e = absurd (cc)
 opened_gate (Some (gate ∷ rest)) slot e = e
 
+-- a gate leaves the body
 pub gate_body : (o : Option (List ℕ)) (slot : Slot) → (with_gate o slot).body ≡ slot.body
 gate_body None slot = refl
 gate_body (Some []) slot = refl
 gate_body (Some (gate ∷ rest)) slot = refl
 
+-- a gate that is not 0xc1 leaves a slot closed
 pub gate_shut : (o : Option (List ℕ)) (slot : Slot) → is_gate o ≡ false → is_open slot ≡ false → is_open (with_gate o slot) ≡ false
 gate_shut None slot e closed = closed
 gate_shut (Some []) slot e closed = closed
 gate_shut (Some (gate ∷ rest)) slot e closed = e
 
 -- a slot that is open after CLOSE is as it was
-close-last : (fact : Slot → Type 0) (o : Option (List ℕ)) (slot : Slot) → is_open slot ≡ true → fact slot → is_open (with_gate o slot) ≡ true → fact (with_gate o slot)
+close-last : (fact : Slot → Type 0) (o : Option (List ℕ)) (slot : Slot) → is_open slot ≡ true → fact slot → is_open (with_gate o slot) ≡ true
+    → fact (with_gate o slot)
 close-last fact None slot opened holds after = holds
 close-last fact (Some []) slot opened holds after = holds
 close-last fact (Some (gate ∷ rest)) slot opened holds after = subst fact (sym (close_same gate slot opened after)) holds
@@ -226,11 +244,13 @@ opened-last size n land rec v at spelled = record {
     own : (if n == n then Some rec else None) ≡ Some rec
     own = rw (eq-true n n refl) refl
 
+-- LOGCLOSE, whatever of it lands
 pub close-stands : (size n : ℕ) (land : Land) (v : LogView) → 0 < size → LogStands size v → AtEnd size n v → is_open (v.slot (n % size)) ≡ true
     → LogStands size (record { log = v.log; start = v.start; slot = λ i. close_at (n % size) land i (v.slot i) })
 close-stands size n land v some stands at opened = changed size n v (with_gate (landed land (0 ∷ []))) v.log stands (record {
   here = λ k residue from.
-      close_none (landed land (0 ∷ [])) (v.slot (n % size)) k opened (in_reach size n v stands at k residue from) ∙ sym (past-none v.log k (omega (arith, at.next)));
+      close_none (landed land (0 ∷ [])) (v.slot (n % size)) k opened (in_reach size n v stands at k residue from)
+      ∙ sym (past-none v.log k (omega (arith, at.next)));
   there = λ k differ. refl;
   shut = λ all within. absurd (used size n v stands at opened within);
   grows = omega arith;
@@ -240,10 +260,13 @@ close-stands size n land v some stands at opened = changed size n v (with_gate (
   room = at.room;
 })
 
+-- LOGBODY, whatever of it lands
 pub body-stands : (size n : ℕ) (land : Land) (own : List ℕ) (v : LogView) → LogStands size v → AtEnd size n v → is_open (v.slot (n % size)) ≡ false
     → LogStands size (record { log = v.log; start = v.start; slot = λ i. body_at (n % size) land own i (v.slot i) })
 body-stands size n land own v stands at closed = changed size n v (with_body (landed land own)) v.log stands (record {
-  here = λ k residue from. closed-none (with_body (landed land own) (v.slot (n % size))) k (body_gate (landed land own) (v.slot (n % size)) closed) ∙ sym (past-none v.log k (omega (arith, at.next)));
+  here =
+      λ k residue from. closed-none (with_body (landed land own) (v.slot (n % size))) k (body_gate (landed land own) (v.slot (n % size)) closed)
+      ∙ sym (past-none v.log k (omega (arith, at.next)));
   there = λ k differ. refl;
   shut = λ all within. body_gate (landed land own) (v.slot (n % size)) closed;
   grows = omega arith;
@@ -253,6 +276,7 @@ body-stands size n land own v stands at closed = changed size n v (with_body (la
   room = at.room;
 })
 
+-- LOGOPEN of the full own body, whatever of it lands
 pub open-stands : (size n : ℕ) (land : Land) (rec : LogRec) (v : LogView) → LogStands size v → AtEnd size n v → is_open (v.slot (n % size)) ≡ false
     → log_reading (v.slot (n % size)).body ≡ Some (n, rec)
     → LogStands size (record { log = if opens land then rec ∷ v.log else v.log; start = v.start; slot = λ i. open_at (n % size) land i (v.slot i) })
@@ -290,5 +314,6 @@ open-stands size n land rec v stands at closed spelled = by (opens land) refl
 pub later-stands : (size later : ℕ) (v : LogView) → LogStands size v → v.start ≤ later → LogStands size (record { log = v.log; start = later; slot = v.slot })
 later-stands size later v stands on = record { slots = λ k from. stands.slots k (omega arith); unused = stands.unused; last = stands.last }
 
+-- at first
 pub first-stands : (size : ℕ) → LogStands size (record { log = []; start = 0; slot = λ i. zero_slot })
 first-stands size = record { slots = λ k from. refl; unused = λ i from within. refl; last = λ i opened. absurd (cc) }

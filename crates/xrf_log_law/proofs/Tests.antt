@@ -15,6 +15,7 @@ pub choose : {X : Type 0} (P : X → Type 0) (b : Bool) (x y : X) → (b ≡ tru
 choose P true x y if_so if_not = if_so refl
 choose P false x y if_so if_not = if_not refl
 
+-- the same of an if
 pub choose_if : {X : Type 0} (P : X → Type 0) (b : Bool) (x y : X) → (b ≡ true → P x) → (b ≡ false → P y) → P (if b then x else y)
 choose_if P true x y if_so if_not = if_so refl
 choose_if P false x y if_so if_not = if_not refl
@@ -23,20 +24,25 @@ choose_if P false x y if_so if_not = if_not refl
 pub less-of-true : (a b : ℕ) → nat_lt a b ≡ true → a < b
 less-of-true a b is = grind (arith, common_steps)
 
+-- and of no less
 pub most-of-true : (a b : ℕ) → nat_le a b ≡ true → a ≤ b
 most-of-true a b is = grind (arith, common_steps)
 
+-- a number is found equal to itself
 pub same-true : (k : ℕ) → (k == k) ≡ true
 same-true k = grind (arith, common_steps)
 
+-- a choice between two by a number that is itself
 pub at_own : {X : Type 0} (P : X → Type 0) (k : ℕ) (x y : X) → P x → P (elim (k == k) [ true ↦ x | false ↦ y ])
 at_own P k x y p = subst (λ (b : Bool). P (elim b [ true ↦ x | false ↦ y ])) (sym (same-true k)) p
 
+-- what comes last is there where it is
 or_else-last : (a : Option OwnerState) (b : Bool) (state : OwnerState) → b ≡ true → is_some (or_else a (if b then Some state else None)) ≡ true
 or_else-last (Some s) b state is = refl
 or_else-last None true state is = refl
 or_else-last None false state is = absurd (cc)
 
+-- a failure that makes an owner unsound makes its sign-off due
 failed-off : (off : Option OwnerState) (sound on_message owner draining : Bool) (state : OwnerState) → (sound ≡ false → is_some off ≡ true)
     → (sound && (not owner || on_message)) ≡ false
     → is_some (or_else off (if (owner && not (owner && on_message && not draining)) then Some state else None)) ≡ true
@@ -45,6 +51,7 @@ failed-off off true false true d state before unsound = or_else-last off true st
 failed-off off true true o d state before unsound = absurd (grind (arith, common_steps))
 failed-off off true false false d state before unsound = absurd (cc)
 
+-- so an unsound owner has its sign-off due
 pub unsound-off : (h : List Event) → is_sound h ≡ false → is_some (sign_off_due h) ≡ true
 unsound-off [] unsound = absurd (cc)
 unsound-off (Abended ∷ h) unsound = or_else-some (sign_off_due h) _ (unsound-off h unsound)
@@ -54,10 +61,12 @@ unsound-off (Given item ∷ h) unsound = or_else-some (sign_off_due h) _ (unsoun
 unsound-off (ActFailed tried at ∷ h) unsound = failed-off (sign_off_due h) (is_sound h) (is_on_message tried) (is_owner h) _ _ (unsound-off h) unsound
 unsound-off (_ ∷ h) unsound = unsound-off h unsound
 
+-- what is none is not there
 pub none-not_some : (a : Option OwnerState) → a ≡ None → is_some a ≡ true → ⊥
 none-not_some None none some = absurd (cc)
 none-not_some (Some state) none some = absurd (cc)
 
+-- an owner with no sign-off due is sound
 pub sound-by : (h : List Event) → sign_off_due h ≡ None → is_sound h ≡ true
 sound-by h none = by (is_sound h) refl
   where
@@ -164,4 +173,3 @@ where-none false c fact none = tt
 pub where-later : (b : Bool) (fact later : Type 0) → (fact → later) → Where b fact → Where b later
 where-later true fact later on holds = on holds
 where-later false fact later on holds = tt
-

@@ -61,10 +61,13 @@ plan-named l (items.Get name rrn) = by (unit_named name l.units)
   where
     by : (o : Option UnitId) → PlanNamed l.units (get_plan l o rrn)
     by None = tt
-    by (Some unit) = choose_if (PlanNamed l.units) (is_bad_rrn l rrn) _ _ (λ b. tt) (λ b. choose_if (PlanNamed l.units) (is_locked unit rrn l.puts) _ _ (λ c. tt) (λ c. tt))
+    by (Some unit) =
+        choose_if (PlanNamed l.units) (is_bad_rrn l rrn) _ _ (λ b. tt)
+        (λ b. choose_if (PlanNamed l.units) (is_locked unit rrn l.puts) _ _ (λ c. tt) (λ c. tt))
 plan-named l (items.Commit name) = by (unit_named name l.units) refl
   where
-    hot : (unit : UnitId) (b : Bool) → IsOpenUnit unit l.units → PlanNamed (if b then l else closed l unit).units (if b then plans.Commit unit l.next else plans.Answer Done)
+    hot : (unit : UnitId) (b : Bool) → IsOpenUnit unit l.units
+        → PlanNamed (if b then l else closed l unit).units (if b then plans.Commit unit l.next else plans.Answer Done)
     hot unit true here = here
     hot unit false here = tt
 
@@ -73,7 +76,8 @@ plan-named l (items.Commit name) = by (unit_named name l.units) refl
     by (Some unit) e = hot unit (is_hot unit l.puts) (named-open name l.units unit e)
 plan-named l (items.Roll name) = by (unit_named name l.units) refl
   where
-    hot : (unit : UnitId) (b : Bool) → IsOpenUnit unit l.units → PlanNamed (if b then l else closed l unit).units (if b then plans.Roll unit l.next else plans.Answer Done)
+    hot : (unit : UnitId) (b : Bool) → IsOpenUnit unit l.units
+        → PlanNamed (if b then l else closed l unit).units (if b then plans.Roll unit l.next else plans.Answer Done)
     hot unit true here = here
     hot unit false here = tt
 
@@ -84,7 +88,8 @@ plan-named l (items.Begin name) = tt
 plan-named l _ = tt
 
 -- the record of a plan joins the log
-record-ledger : (size : ℕ) (log : List LogRec) (start : ℕ) (l : Ledger) (plan : Plan) (slot : List ℕ) (rec : LogRec) → record_of_plan plan slot ≡ Some rec → PlanNamed l.units plan → Ledgers size log start l
+record-ledger : (size : ℕ) (log : List LogRec) (start : ℕ) (l : Ledger) (plan : Plan) (slot : List ℕ) (rec : LogRec)
+    → record_of_plan plan slot ≡ Some rec → PlanNamed l.units plan → Ledgers size log start l
     → Ledgers size (rec ∷ log) start (after_record rec l)
 record-ledger size log start l (plans.Put u k value place) slot (Put unit rrn before) hand named is =
     logged-ledger size log start l unit rrn before (subst (λ (w : UnitId). IsOpenUnit w l.units) (same-put-unit u unit k rrn slot before hand) named) is
@@ -101,6 +106,7 @@ record-ledger size log start l (plans.Roll u place) slot (Commit unit) hand name
 record-ledger size log start l (plans.Answer a) slot rec hand named is = absurd (cc)
 record-ledger size log start l (plans.Get k) slot rec hand named is = absurd (cc)
 
+-- after a LOGOPEN no plan is to be named
 open-named : (units : List OpenUnit) (plan : Plan) (rec : LogRec) → NamedIn units plan (after_log_open rec plan)
 open-named units (plans.Put u k value place) (Put unit rrn before) = tt
 open-named units (plans.Answer a) (Put unit rrn before) = tt
@@ -111,9 +117,11 @@ open-named units plan (Commit unit) = tt
 open-named units plan (Backout unit) = tt
 
 -- an UNDO of a job at work is one of a roll
-undo-work : (p : Settings) (first : ℕ → Option (List ℕ)) (v : View) (h : List Event) (units : List OpenUnit) (rrn : ℕ) (own : List ℕ) (plan : Plan) → State p.limits.log first v
+undo-work : (p : Settings) (first : ℕ → Option (List ℕ)) (v : View) (h : List Event) (units : List OpenUnit) (rrn : ℕ) (own : List ℕ) (plan : Plan)
+    → State p.limits.log first v
     → UndoDue p.limits.log first v (λ u. rolled_left p u h) plan rrn own → RollLast first v plan → PlanNamed units plan
-    → LastIn first (after p.limits.log (act.Undo rrn own) land.Full v) plan (after_undo p (RecordUndone rrn own ∷ h) plan) × NamedIn units plan (after_undo p (RecordUndone rrn own ∷ h) plan)
+    → LastIn first (after p.limits.log (act.Undo rrn own) land.Full v) plan (after_undo p (RecordUndone rrn own ∷ h) plan)
+    × NamedIn units plan (after_undo p (RecordUndone rrn own ∷ h) plan)
 undo-work p first v h units rrn own (plans.Roll unit place) state due last named = (
   roll-last first (after p.limits.log (act.Undo rrn own) land.Full v) p unit place (rolled_left p unit (RecordUndone rrn own ∷ h))
       (undo-last first p.limits.log v unit rrn own state (due.1.own rrn (head rrn own due.2.1)) last),
@@ -134,37 +142,51 @@ undo-work p first v h units rrn own (plans.Commit u place) state due last named 
 abbrev pub Works : Scen → List Entry → Site → List Event → Act → Type 0
 Works s t x h a = Working s.settings.log (first_value s) (after s.settings.log a land.Full (view s t)) (settings s x) (handed s t x (now t) h a ∷ h)
 
-pub given-works : (s : Scen) (t : List Entry) (x : Site) (h : List Event) (o : Option Item) → Working s.settings.log (first_value s) (view s t) (settings s x) h → Last (first_value s) (view s t)
+-- after an ITEM
+pub given-works : (s : Scen) (t : List Entry) (x : Site) (h : List Event) (o : Option Item)
+    → Working s.settings.log (first_value s) (view s t) (settings s x) h → Last (first_value s) (view s t)
     → Working s.settings.log (first_value s) (view s t) (settings s x) (item_event o ∷ h)
 given-works s t x h None before last = before
 given-works s t x h (Some item) before last = (
   planned-ledger s.settings.log (view s t).log (view s t).start (ledger (settings s x) h) item before.0,
   before.1,
   item-last (first_value s) (view s t) (settings s x) (Given item ∷ h) (plan_of (ledger (settings s x) h) item) last,
-  item-named (planned (ledger (settings s x) h) item).units (settings s x) (Given item ∷ h) (plan_of (ledger (settings s x) h) item) (plan-named (ledger (settings s x) h) item),
+  item-named (planned (ledger (settings s x) h) item).units (settings s x) (Given item ∷ h) (plan_of (ledger (settings s x) h) item)
+      (plan-named (ledger (settings s x) h) item),
 )
 
-opened-last : (first : ℕ → Option (List ℕ)) (v : View) (plan : Plan) (rec : LogRec) (working : Bool) → working ≡ true → LastIn first v plan (after_log_open rec plan) → LastIn first v plan (if_working working (after_log_open rec plan))
+-- the last values after a LOGOPEN at work
+opened-last : (first : ℕ → Option (List ℕ)) (v : View) (plan : Plan) (rec : LogRec) (working : Bool) → working ≡ true
+    → LastIn first v plan (after_log_open rec plan) → LastIn first v plan (if_working working (after_log_open rec plan))
 opened-last first v plan rec true is last = last
 opened-last first v plan rec false is last = absurd (cc)
 
+-- no plan is to be named after a LOGOPEN at work
 opened-named : (units : List OpenUnit) (plan : Plan) (rec : LogRec) (working : Bool) → NamedIn units plan (if_working working (after_log_open rec plan))
 opened-named units plan rec true = open-named units plan rec
 opened-named units plan rec false = tt
 
-undone-last : (first : ℕ → Option (List ℕ)) (v : View) (units : List OpenUnit) (plan : Plan) (o : Option Want) (working : Bool) → working ≡ true → LastIn first v plan o × NamedIn units plan o
+-- the last values after an UNDO at work
+undone-last : (first : ℕ → Option (List ℕ)) (v : View) (units : List OpenUnit) (plan : Plan) (o : Option Want) (working : Bool) → working ≡ true
+    → LastIn first v plan o × NamedIn units plan o
     → LastIn first v plan (if_working working o) × NamedIn units plan (if_working working o)
 undone-last first v units plan o true is both = both
 undone-last first v units plan o false is both = absurd (cc)
 
-idle-works : (s : Scen) (t : List Entry) (x : Site) (h : List Event) (v : View) (now_h : List Event) → Ledgers s.settings.log v.log v.start (ledger (settings s x) now_h) → last_keypoint (settings s x) now_h ≡ record { number = v.number; start = v.start }
+-- after an idle act
+idle-works : (s : Scen) (t : List Entry) (x : Site) (h : List Event) (v : View) (now_h : List Event)
+    → Ledgers s.settings.log v.log v.start (ledger (settings s x) now_h)
+    → last_keypoint (settings s x) now_h ≡ record { number = v.number; start = v.start }
     → IfSome (inside (settings s x) now_h) Idle → Last (first_value s) v → Working s.settings.log (first_value s) v (settings s x) now_h
 idle-works s t x h v now_h ledgers last_key idle last =
     let both = idle-in (first_value s) v (ledger (settings s x) now_h).units (last_plan (settings s x) now_h) (inside (settings s x) now_h) idle last in
     (ledgers, last_key, both.0, both.1)
 
-pub work-after : (s : Scen) (t : List Entry) (x : Site) (h : List Event) (w : Want) → Before s t x h w → is_restarted h ≡ true → Working s.settings.log (first_value s) (view s t) (settings s x) h
-    → LastAt (first_value s) (view s t) (last_plan (settings s x) h) w → NamedAt (ledger (settings s x) h).units (last_plan (settings s x) h) w → IfSome (act_of s t x h w) (Works s t x h)
+-- after each act
+pub work-after : (s : Scen) (t : List Entry) (x : Site) (h : List Event) (w : Want) → Before s t x h w → is_restarted h ≡ true
+    → Working s.settings.log (first_value s) (view s t) (settings s x) h
+    → LastAt (first_value s) (view s t) (last_plan (settings s x) h) w → NamedAt (ledger (settings s x) h).units (last_plan (settings s x) h) w
+    → IfSome (act_of s t x h w) (Works s t x h)
 work-after s t x h want.Nothing b working before last named = tt
 work-after s t x h (want.Exit told) b working before last named = tt
 work-after s t x h (want.LogRead n) b working before last named = no-clash (is_restarted h) working b.due.0
@@ -172,17 +194,20 @@ work-after s t x h want.Restarted b working before last named = no-clash (is_res
 work-after s t x h (want.LogLook place) b working before last named = (
   before.0,
   before.1,
-  look-last (first_value s) (view s t) (last_plan (settings s x) h) place _ (slot_read h) (record_at_hand (settings s x) h) (plan-hand (settings s x) h working) last,
+  look-last (first_value s) (view s t) (last_plan (settings s x) h) place _ (slot_read h) (record_at_hand (settings s x) h)
+      (plan-hand (settings s x) h working) last,
   look-named (ledger (settings s x) h).units (last_plan (settings s x) h) place _ (record_at_hand (settings s x) h) named,
 )
 work-after s t x h (want.LogClose place) b working before last named = (
   before.0,
   before.1,
-  close-last (first_value s) (after s.settings.log (act.LogClose place) land.Full (view s t)) (last_plan (settings s x) h) place (slot_read h) (record_at_hand (settings s x) h) (plan-hand (settings s x) h working) (moved (last_plan (settings s x) h) last),
+  close-last (first_value s) (after s.settings.log (act.LogClose place) land.Full (view s t)) (last_plan (settings s x) h) place (slot_read h)
+      (record_at_hand (settings s x) h) (plan-hand (settings s x) h working) (moved (last_plan (settings s x) h) last),
   close-named (ledger (settings s x) h).units (last_plan (settings s x) h) place (record_at_hand (settings s x) h) named,
 )
   where
-    moved : (plan : Plan) → RollLast (first_value s) (view s t) plan → RollLast (first_value s) (after s.settings.log (act.LogClose place) land.Full (view s t)) plan
+    moved : (plan : Plan) → RollLast (first_value s) (view s t) plan
+        → RollLast (first_value s) (after s.settings.log (act.LogClose place) land.Full (view s t)) plan
     moved (plans.Roll u n) last = last
     moved (plans.Answer a) last = last
     moved (plans.Get k) last = last
@@ -190,7 +215,8 @@ work-after s t x h (want.LogClose place) b working before last named = (
     moved (plans.Commit u n) last = last
 work-after s t x h (want.LogBody place rec) b working before last named = (before.0, before.1, moved (last_plan (settings s x) h) last, named)
   where
-    moved : (plan : Plan) → RollLast (first_value s) (view s t) plan → RollLast (first_value s) (after s.settings.log (act.LogBody place rec) land.Full (view s t)) plan
+    moved : (plan : Plan) → RollLast (first_value s) (view s t) plan
+        → RollLast (first_value s) (after s.settings.log (act.LogBody place rec) land.Full (view s t)) plan
     moved (plans.Roll u n) last = last
     moved (plans.Answer a) last = last
     moved (plans.Get k) last = last
@@ -201,11 +227,13 @@ work-after s t x h (want.LogOpen place rec) b working before last named =
       record-ledger s.settings.log (view s t).log (view s t).start (ledger (settings s x) h) (last_plan (settings s x) h) (slot_read h) rec hand named before.0,
       before.1,
       opened-last (first_value s) (after s.settings.log (act.LogOpen place rec) land.Full (view s t)) (last_plan (settings s x) h) rec (is_restarted h) working
-          (moved (after_log_open rec (last_plan (settings s x) h)) (open-last (first_value s) s.settings.log (view s t) (last_plan (settings s x) h) (slot_read h) rec b.state b.due.1 hand last)),
+          (moved (after_log_open rec (last_plan (settings s x) h))
+          (open-last (first_value s) s.settings.log (view s t) (last_plan (settings s x) h) (slot_read h) rec b.state b.due.1 hand last)),
       opened-named (ledger (settings s x) (LogOpened place rec ∷ h)).units (last_plan (settings s x) h) rec (is_restarted h),
     )
   where
-    by-roll : (plan : Plan) → RollLast (first_value s) (record (view s t) { log = rec ∷ (view s t).log }) plan → RollLast (first_value s) (after s.settings.log (act.LogOpen place rec) land.Full (view s t)) plan
+    by-roll : (plan : Plan) → RollLast (first_value s) (record (view s t) { log = rec ∷ (view s t).log }) plan
+        → RollLast (first_value s) (after s.settings.log (act.LogOpen place rec) land.Full (view s t)) plan
     by-roll (plans.Roll u n) last = last
     by-roll (plans.Answer a) last = last
     by-roll (plans.Get k) last = last
@@ -223,25 +251,38 @@ work-after s t x h (want.LogOpen place rec) b working before last named =
     moved (Some (want.FileWrite u k value)) last = last
     moved (Some _) last = last
 work-after s t x h (want.KpRead k) b working before last named =
-    let both = choose (λ w. LastAt (first_value s) (view s t) (last_plan (settings s x) h) w × NamedAt (ledger (settings s x) h).units (last_plan (settings s x) h) w) ((key_slot t k).gate == OPEN) (want.KpClose k) (want.KpBody k (next_keypoint (settings s x) h)) (λ e. (last, tt)) (λ e. (last, tt)) in
+    let both = choose (λ w. LastAt (first_value s) (view s t) (last_plan (settings s x) h) w
+    × NamedAt (ledger (settings s x) h).units (last_plan (settings s x) h) w) ((key_slot t k).gate == OPEN) (want.KpClose k)
+    (want.KpBody k (next_keypoint (settings s x) h)) (λ e. (last, tt)) (λ e. (last, tt)) in
     (before.0, before.1, both.0, both.1)
 work-after s t x h (want.KpClose k) b working before last named = (before.0, before.1, last, tt)
 work-after s t x h (want.KpBody k keypoint) b working before last named = (before.0, before.1, last, tt)
 work-after s t x h (want.KpOpen k keypoint) b working before last named =
     (keyed-ledger s.settings.log (view s t).log (view s t).start keypoint.start (ledger (settings s x) h) before.0, refl, last, tt)
-work-after s t x h (want.FileRead rrn) b working before last named =
-    (before.0, before.1, read-last (first_value s) (view s t) (settings s x) (last_plan (settings s x) h) (image s t rrn) last, read-named (ledger (settings s x) h).units (settings s x) (last_plan (settings s x) h) (image s t rrn) named)
+work-after s t x h (want.FileRead rrn) b working before last named = (
+  before.0,
+  before.1,
+  read-last (first_value s) (view s t) (settings s x) (last_plan (settings s x) h) (image s t rrn) last,
+  read-named (ledger (settings s x) h).units (settings s x) (last_plan (settings s x) h) (image s t rrn) named,
+)
 work-after s t x h (want.FileWrite unit k value) b working before last named =
     (before.0, before.1, write-last (first_value s) s.settings.log (view s t) unit k value b.state b.due.0 b.due.1 last, tt)
 work-after s t x h (want.Undo rrn own) b working before last named =
-    let both = undone-last (first_value s) (after s.settings.log (act.Undo rrn own) land.Full (view s t)) (ledger (settings s x) h).units (last_plan (settings s x) h) (after_undo (settings s x) (RecordUndone rrn own ∷ h) (last_plan (settings s x) h)) (is_restarted h) working
-    (undo-work (settings s x) (first_value s) (view s t) h (ledger (settings s x) h).units rrn own (last_plan (settings s x) h) b.state (b.due.2 working) last named) in
+    let both = undone-last (first_value s) (after s.settings.log (act.Undo rrn own) land.Full (view s t)) (ledger (settings s x) h).units
+    (last_plan (settings s x) h) (after_undo (settings s x) (RecordUndone rrn own ∷ h) (last_plan (settings s x) h)) (is_restarted h) working
+    (undo-work (settings s x) (first_value s) (view s t) h (ledger (settings s x) h).units rrn own (last_plan (settings s x) h) b.state
+    (b.due.2 working) last named) in
     (before.0, before.1, both.0, both.1)
 work-after s t x h want.Item b working before last named = of-item s t x (Works s t x h) (given-works s t x h (item_at s x (items_taken t x + 1)) before last)
-work-after s t x h want.Reserve b working before last named = idle-works s t x h (view s t) (handed s t x (now t) h act.Reserve ∷ h) before.0 before.1 (act-idle s t x h want.Reserve refl) last
-work-after s t x h want.CtlRead b working before last named = idle-works s t x h (view s t) (handed s t x (now t) h act.CtlRead ∷ h) before.0 before.1 (act-idle s t x h want.CtlRead refl) last
+work-after s t x h want.Reserve b working before last named =
+    idle-works s t x h (view s t) (handed s t x (now t) h act.Reserve ∷ h) before.0 before.1 (act-idle s t x h want.Reserve refl) last
+work-after s t x h want.CtlRead b working before last named =
+    idle-works s t x h (view s t) (handed s t x (now t) h act.CtlRead ∷ h) before.0 before.1 (act-idle s t x h want.CtlRead refl) last
 work-after s t x h (want.CtlWrite written) b working before last named = (before.0, before.1, last, tt)
-work-after s t x h want.Release b working before last named = idle-works s t x h (view s t) (handed s t x (now t) h act.Release ∷ h) before.0 before.1 (act-idle s t x h want.Release refl) last
-work-after s t x h (want.MsgRead k) b working before last named = idle-works s t x h (view s t) (handed s t x (now t) h (act.MsgRead k) ∷ h) before.0 before.1 (act-idle s t x h (want.MsgRead k) refl) last
-work-after s t x h (want.MsgClose k) b working before last named = idle-works s t x h (view s t) (handed s t x (now t) h (act.MsgClose k) ∷ h) before.0 before.1 (act-idle s t x h (want.MsgClose k) refl) last
+work-after s t x h want.Release b working before last named =
+    idle-works s t x h (view s t) (handed s t x (now t) h act.Release ∷ h) before.0 before.1 (act-idle s t x h want.Release refl) last
+work-after s t x h (want.MsgRead k) b working before last named =
+    idle-works s t x h (view s t) (handed s t x (now t) h (act.MsgRead k) ∷ h) before.0 before.1 (act-idle s t x h (want.MsgRead k) refl) last
+work-after s t x h (want.MsgClose k) b working before last named =
+    idle-works s t x h (view s t) (handed s t x (now t) h (act.MsgClose k) ∷ h) before.0 before.1 (act-idle s t x h (want.MsgClose k) refl) last
 work-after s t x h _ b working before last named = (before.0, before.1, last, tt)

@@ -40,20 +40,26 @@ use Rattle.xrf_log_law.proofs.Tests.{false-true, no-clash}
 use Rattle.xrf_history.specs.declared.want.Want.TheVariants as want
 use Rattle.xrf_trace.specs.declared.entry.Land.TheVariants as land
 
-
 -- what holds of the next act of a job at work
-or_boundary-last : (first : ℕ → Option (List ℕ)) (v : View) (plan : Plan) (p : Settings) (h : List Event) (o : Option Want) → LastIn first v plan o → LastAt first v plan (or_boundary p h o)
+or_boundary-last : (first : ℕ → Option (List ℕ)) (v : View) (plan : Plan) (p : Settings) (h : List Event) (o : Option Want) → LastIn first v plan o
+    → LastAt first v plan (or_boundary p h o)
 or_boundary-last first v plan p h None last = last-any first v plan (boundary p h) last
 or_boundary-last first v plan p h (Some w) last = last
 
-or_boundary-named : (units : List OpenUnit) (plan : Plan) (p : Settings) (h : List Event) (o : Option Want) → is_restarted h ≡ true → NamedIn units plan o → NamedAt units plan (or_boundary p h o)
+-- and the plan that is carried out
+or_boundary-named : (units : List OpenUnit) (plan : Plan) (p : Settings) (h : List Event) (o : Option Want) → is_restarted h ≡ true
+    → NamedIn units plan o → NamedAt units plan (or_boundary p h o)
 or_boundary-named units plan p h None working named = boundary-named units plan p h working
 or_boundary-named units plan p h (Some w) working named = named
 
-pub next-last : (size : ℕ) (first : ℕ → Option (List ℕ)) (v : View) (p : Settings) (h : List Event) → Working size first v p h → LastAt first v (last_plan p h) (next p h)
+-- the last values at the next act
+pub next-last : (size : ℕ) (first : ℕ → Option (List ℕ)) (v : View) (p : Settings) (h : List Event) → Working size first v p h
+    → LastAt first v (last_plan p h) (next p h)
 next-last size first v p h working = or_boundary-last first v (last_plan p h) p h (inside p h) working.2
 
-pub next-named : (size : ℕ) (first : ℕ → Option (List ℕ)) (v : View) (p : Settings) (h : List Event) → is_restarted h ≡ true → Working size first v p h → NamedAt (ledger p h).units (last_plan p h) (next p h)
+-- the plan that is carried out at the next act
+pub next-named : (size : ℕ) (first : ℕ → Option (List ℕ)) (v : View) (p : Settings) (h : List Event) → is_restarted h ≡ true
+    → Working size first v p h → NamedAt (ledger p h).units (last_plan p h) (next p h)
 next-named size first v p h restarted working = or_boundary-named (ledger p h).units (last_plan p h) p h (inside p h) restarted working.3
 
 -- RESTARTED
@@ -62,11 +68,14 @@ no-put log unit r none put =
     let rows : open_puts log ≡ [] = sym (open-rows log) ∙ ap (map (λ (q : LoggedPut). record { unit = q.unit; undo = q.undo })) (no-rows log none) in
     sym (ap (has_put unit r) rows) ∙ put
 
-begun-works : (s : Scen) (t : List Entry) (x : Site) (h : List Event) → Restarts s.settings.log (first_value s) (view s t) (restart_view (settings s x) h) → (scan (settings s x) h).ended ≡ true → flight (log t) ≡ []
+-- RESTARTED begins the work
+begun-works : (s : Scen) (t : List Entry) (x : Site) (h : List Event)
+    → Restarts s.settings.log (first_value s) (view s t) (restart_view (settings s x) h) → (scan (settings s x) h).ended ≡ true → flight (log t) ≡ []
     → ((serial : ℕ) → has_ended (record { inc = number h; serial = serial }) (log t) ≡ false)
     → Working s.settings.log (first_value s) (view s t) (settings s x) (RestartDeclared ∷ h)
 begun-works s t x h restarts ended none fresh = (
-  begun-ledger s.settings.log (log t) (view s t).start (ledger (settings s x) (RestartDeclared ∷ h)) refl (restarts.undoing ended).next (ap (λ (k : Keypoint). k.start) restarts.keypoint) refl refl refl none fresh,
+  begun-ledger s.settings.log (log t) (view s t).start (ledger (settings s x) (RestartDeclared ∷ h)) refl (restarts.undoing ended).next
+      (ap (λ (k : Keypoint). k.start) restarts.keypoint) refl refl refl none fresh,
   restarts.keypoint,
   λ u r put e. false-true (no-put (log t) u r none put),
   tt,
@@ -74,11 +83,14 @@ begun-works s t x h restarts ended none fresh = (
 
 -- after each act
 abbrev pub WorksOn : Scen → List Entry → Site → View → List Event → Type 0
-WorksOn s t x v now_h = is_active now_h ≡ true → is_sound now_h ≡ true → is_restarted now_h ≡ true → Working s.settings.log (first_value s) v (settings s x) now_h
+WorksOn s t x v now_h =
+    is_active now_h ≡ true → is_sound now_h ≡ true → is_restarted now_h ≡ true → Working s.settings.log (first_value s) v (settings s x) now_h
 
+-- after an act in full
 abbrev pub AtWorkAfter : Scen → List Entry → Site → List Event → Act → Type 0
 AtWorkAfter s t x h a = WorksOn s t x (after s.settings.log a land.Full (view s t)) (handed s t x (now t) h a ∷ h)
 
+-- a restarted job is an owner
 pub restarted-owner : (s : Scen) (t : List Entry) (x : Site) (h : List Event) (w : Want) → Before s t x h w → is_restarted h ≡ true → is_owner h ≡ true
 restarted-owner s t x h w b restarted = by (has_read_block h) refl
   where
@@ -86,6 +98,7 @@ restarted-owner s t x h w b restarted = by (has_read_block h) refl
     by true e = b.stands.0 e
     by false e = no-clash (is_restarted h) restarted (b.stands.1 e).3
 
+-- so the work stands after each act
 pub work-stands : (s : Scen) (t : List Entry) (x : Site) (h : List Event) (w : Want) → Before s t x h w → IfSome (act_of s t x h w) (AtWorkAfter s t x h)
 work-stands s t x h want.Nothing b = tt
 work-stands s t x h (want.Exit told) b = tt
@@ -109,4 +122,6 @@ work-stands s t x h want.Item b = of-item s t x (AtWorkAfter s t x h) (by (item_
     by : (o : Option Item) → WorksOn s t x (view s t) (item_event o ∷ h)
     by None there sound working = b.stands.5 there sound working
     by (Some item) there sound working = given-works s t x h (Some item) (b.stands.5 there sound working) (b.values there sound working)
-work-stands s t x h w b = λ there sound working. work-after s t x h w b working (b.stands.5 there sound working) (b.values there sound working) (b.named there sound working)
+work-stands s t x h w b =
+    λ there sound working. work-after s t x h w b working (b.stands.5 there sound working) (b.values there sound working)
+    (b.named there sound working)

@@ -23,7 +23,6 @@ use Rattle.xrf_log_law.proofs.Boundaries.{boundary-data}
 use Rattle.xrf_file.specs.declared.answers.Plan.TheVariants as plans
 use Rattle.xrf_history.specs.declared.want.Want.TheVariants as want
 
-
 -- all the last values hold but where some are named
 pub last-any : (first : ℕ → Option (List ℕ)) (v : View) (plan : Plan) (w : Want) → Last first v → LastAt first v plan w
 last-any first v plan (want.LogLook place) last = last-roll first v plan last
@@ -35,7 +34,8 @@ last-any first v plan (want.FileWrite unit rrn value) last = λ u r put e. last 
 last-any first v plan _ last = last
 
 -- an idle act needs nothing
-idle-last : (first : ℕ → Option (List ℕ)) (v : View) (units : List OpenUnit) (plan : Plan) (w : Want) → Idle w → Last first v → LastAt first v plan w × NamedAt units plan w
+idle-last : (first : ℕ → Option (List ℕ)) (v : View) (units : List OpenUnit) (plan : Plan) (w : Want) → Idle w → Last first v
+    → LastAt first v plan w × NamedAt units plan w
 idle-last first v units plan (want.LogRead b) idle last = absurd (cc)
 idle-last first v units plan (want.LogLook place) idle last = absurd (cc)
 idle-last first v units plan (want.LogClose place) idle last = absurd (cc)
@@ -52,7 +52,9 @@ idle-last first v units plan want.Item idle last = absurd (cc)
 idle-last first v units plan want.Restarted idle last = absurd (cc)
 idle-last first v units plan _ idle last = (last, tt)
 
-pub idle-in : (first : ℕ → Option (List ℕ)) (v : View) (units : List OpenUnit) (plan : Plan) (o : Option Want) → IfSome o Idle → Last first v → LastIn first v plan o × NamedIn units plan o
+-- also inside a sequence
+pub idle-in : (first : ℕ → Option (List ℕ)) (v : View) (units : List OpenUnit) (plan : Plan) (o : Option Want) → IfSome o Idle → Last first v
+    → LastIn first v plan o × NamedIn units plan o
 idle-in first v units plan None idle last = (last, tt)
 idle-in first v units plan (Some w) idle last = idle-last first v units plan w idle last
 
@@ -75,17 +77,22 @@ boundary-named units plan p h restarted = boundary-data p h (NamedAt units plan)
 })
 
 -- a plan is carried on
-pub log_write-named : (units : List OpenUnit) (plan : Plan) (p : Settings) (place : ℕ) (rec : LogRec) → PlanNamed units plan → NamedAt units plan (log_write p place rec)
+pub log_write-named : (units : List OpenUnit) (plan : Plan) (p : Settings) (place : ℕ) (rec : LogRec) → PlanNamed units plan
+    → NamedAt units plan (log_write p place rec)
 log_write-named units plan p place rec named = choose (NamedAt units plan) (nat_le p.limits.log place) _ _ (λ e. named) (λ e. named)
 
-pub look-named : (units : List OpenUnit) (plan : Plan) (place gate : ℕ) (o : Option LogRec) → PlanNamed units plan → NamedIn units plan (after_log_look place gate o)
+-- after a LOGLOOK
+pub look-named : (units : List OpenUnit) (plan : Plan) (place gate : ℕ) (o : Option LogRec) → PlanNamed units plan
+    → NamedIn units plan (after_log_look place gate o)
 look-named units plan place gate None named = tt
 look-named units plan place gate (Some rec) named = choose (NamedAt units plan) (gate == OPEN) _ _ (λ e. named) (λ e. named)
 
+-- after a LOGCLOSE
 pub close-named : (units : List OpenUnit) (plan : Plan) (place : ℕ) (o : Option LogRec) → PlanNamed units plan → NamedIn units plan (after_log_close place o)
 close-named units plan place None named = tt
 close-named units plan place (Some rec) named = named
 
+-- after a FILEREAD
 pub read-named : (units : List OpenUnit) (p : Settings) (plan : Plan) (slot : List ℕ) → PlanNamed units plan → NamedIn units plan (after_file_read p slot plan)
 read-named units p (plans.Put unit rrn value place) slot named = log_write-named units (plans.Put unit rrn value place) p place (Put unit rrn slot) named
 read-named units p (plans.Answer a) slot named = tt
@@ -93,10 +100,13 @@ read-named units p (plans.Get k) slot named = tt
 read-named units p (plans.Commit u place) slot named = tt
 read-named units p (plans.Roll u place) slot named = tt
 
-pub roll-named : (units : List OpenUnit) (p : Settings) (unit : UnitId) (place : ℕ) (rows : List Undo) → IsOpenUnit unit units → NamedAt units (plans.Roll unit place) (roll_next p unit place rows)
+-- while a unit rolls
+pub roll-named : (units : List OpenUnit) (p : Settings) (unit : UnitId) (place : ℕ) (rows : List Undo) → IsOpenUnit unit units
+    → NamedAt units (plans.Roll unit place) (roll_next p unit place rows)
 roll-named units p unit place [] named = log_write-named units (plans.Roll unit place) p place (Backout unit) named
 roll-named units p unit place (row ∷ rows) named = named
 
+-- after an ITEM
 pub item-named : (units : List OpenUnit) (p : Settings) (h : List Event) (plan : Plan) → PlanNamed units plan → NamedIn units plan (after_item p h plan)
 item-named units p h (plans.Answer a) named = tt
 item-named units p h (plans.Get k) named = tt

@@ -17,5 +17,6 @@ use Rattle.xrf_log_law.specs.Soundness.{is_sound}
 abbrev pub LedgerIs : Scen → List Entry → Site → List Event → Type 0
 LedgerIs s t x h = Where (is_active h && is_sound h && is_restarted h) (ledger_at s t x ≡ ledger (settings s x) h)
 
+-- of the job of each site
 abbrev pub LedgersAgree : Scen → List Entry → Type 0
 LedgersAgree s t = (x : Site) → OfJob (hist s t x) (LedgerIs s t x)

@@ -28,6 +28,7 @@ use Rattle.xrf_history.specs.declared.want.Want.TheVariants as want
 abbrev pub open_numbered : List LogRec → List LoggedPut
 open_numbered log = filter (λ put. not (has_ended put.unit log)) (numbered log)
 
+-- a unit is open
 abbrev pub IsOpenUnit : UnitId → List OpenUnit → Type 0
 IsOpenUnit unit units = list_any (λ o. same_unit o.unit unit) units ≡ true
 
@@ -44,8 +45,11 @@ pub record Ledgers (size : ℕ) (log : List LogRec) (start : ℕ) (l : Ledger) :
 
 -- the last values: each record that an open unit put holds its last value, but at those of a test
 abbrev pub LastBut : (UnitId → ℕ → Bool) → (ℕ → Option (List ℕ)) → View → Type 0
-LastBut but first v = (unit : UnitId) (r : ℕ) → has_put unit r (open_puts v.log) ≡ true → but unit r ≡ false → v.image r ≡ slot_of (value_after r (v.puts unit) (value_at first v r))
+LastBut but first v =
+    (unit : UnitId) (r : ℕ) → has_put unit r (open_puts v.log) ≡ true → but unit r ≡ false
+    → v.image r ≡ slot_of (value_after r (v.puts unit) (value_at first v r))
 
+-- all the last values
 abbrev pub Last : (ℕ → Option (List ℕ)) → View → Type 0
 Last first v = LastBut (λ unit r. false) first v
 
@@ -54,6 +58,7 @@ abbrev pub RollLast : (ℕ → Option (List ℕ)) → View → Plan → Type 0
 RollLast first v (plans.Roll unit place) = LastBut (λ u r. same_unit unit u) first v
 RollLast first v _ = Last first v
 
+-- where an act is next
 abbrev pub LastAt : (ℕ → Option (List ℕ)) → View → Plan → Want → Type 0
 LastAt first v plan (want.LogLook place) = RollLast first v plan
 LastAt first v plan (want.LogClose place) = RollLast first v plan
@@ -63,6 +68,7 @@ LastAt first v plan (want.Undo rrn own) = RollLast first v plan
 LastAt first v plan (want.FileWrite unit rrn value) = LastBut (λ u r. same_unit unit u && rrn == r) first v
 LastAt first v plan _ = Last first v
 
+-- inside a sequence
 abbrev pub LastIn : (ℕ → Option (List ℕ)) → View → Plan → Option Want → Type 0
 LastIn first v plan None = Last first v
 LastIn first v plan (Some w) = LastAt first v plan w
@@ -74,6 +80,7 @@ PlanNamed units (plans.Commit unit place) = IsOpenUnit unit units
 PlanNamed units (plans.Roll unit place) = IsOpenUnit unit units
 PlanNamed units _ = Unit {0}
 
+-- where an act is next
 abbrev pub NamedAt : List OpenUnit → Plan → Want → Type 0
 NamedAt units plan (want.LogLook place) = PlanNamed units plan
 NamedAt units plan (want.LogClose place) = PlanNamed units plan
@@ -83,6 +90,7 @@ NamedAt units plan (want.Undo rrn own) = PlanNamed units plan
 NamedAt units plan (want.FileRead rrn) = PlanNamed units plan
 NamedAt units plan _ = Unit {0}
 
+-- inside a sequence
 abbrev pub NamedIn : List OpenUnit → Plan → Option Want → Type 0
 NamedIn units plan None = Unit {0}
 NamedIn units plan (Some w) = NamedAt units plan w

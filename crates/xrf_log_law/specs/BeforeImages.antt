@@ -20,6 +20,7 @@ covers r rows = list_any (λ row. row.rrn == r) rows
 abbrev pub has_put : UnitId → ℕ → List Row → Bool
 has_put unit r rows = list_any (λ row. row.undo.rrn == r && same_unit row.unit unit) rows
 
+-- another unit has put the record
 abbrev pub other_has_put : UnitId → ℕ → List Row → Bool
 other_has_put unit r rows = list_any (λ row. row.undo.rrn == r && not (same_unit row.unit unit)) rows
 

@@ -32,6 +32,7 @@ MayBeWritten s t _ = Unit {0}
 abbrev pub IsSlot : List ℕ → Type 0
 IsSlot bytes = (held : Option (List ℕ)) × SlotIs bytes held
 
+-- what a FILEREAD is handed is a slot
 abbrev pub ReadsSlot : Scen → List Entry → Act → Type 0
 ReadsSlot s t (act.FileRead k) = IsSlot (image s t k)
 ReadsSlot s t _ = Unit {0}
@@ -46,6 +47,7 @@ pub record ScanFits (size : ℕ) (found : Scanned) : Type 0 where
 abbrev pub JobScanFits : Scen → Site → List Event → Type 0
 JobScanFits s x h = ScanFits s.settings.log (scan (settings s x) h)
 
+-- of the job of each site
 abbrev pub ScansFit : Scen → List Entry → Type 0
 ScansFit s t = (x : Site) → IfSome (hist s t x) (JobScanFits s x)
 
@@ -53,6 +55,7 @@ ScansFit s t = (x : Site) → IfSome (hist s t x) (JobScanFits s x)
 abbrev pub IsSmall : ℕ → Keypoint → Type 0
 IsSmall n keypoint = (keypoint.number ≤ n) × (keypoint.start ≤ n)
 
+-- in both KEY slots
 abbrev pub KeysAreSmall : List Entry → Type 0
 KeysAreSmall t = (i : ℕ) → IfSome (keypoint_at (key_slot t i)) (IsSmall (length t))
 
@@ -60,6 +63,7 @@ KeysAreSmall t = (i : ℕ) → IfSome (keypoint_at (key_slot t i)) (IsSmall (len
 abbrev pub IsOfRecord : Scen → ℕ → Type 0
 IsOfRecord s k = (1 ≤ k) × (k ≤ s.settings.file)
 
+-- the act of an entry
 abbrev pub IsWithin : Scen → Act → Type 0
 IsWithin s (act.LogRead b) = 64 * b + 64 ≤ s.settings.log
 IsWithin s (act.FileRead k) = IsOfRecord s k

@@ -41,6 +41,7 @@ is_idle want.Item = false
 is_idle want.Restarted = false
 is_idle _ = true
 
+-- the same as a fact
 abbrev pub Idle : Want → Type 0
 Idle w = is_idle w ≡ true
 
@@ -58,6 +59,7 @@ JobStands size first v p h =
 abbrev pub SiteStands : Scen → List Entry → Site → View → List Event → Type 0
 SiteStands s t x v h = JobStands s.settings.log (first_value s) v (settings s x) h
 
+-- the invariant of the data sets and the jobs
 pub record Stands (s : Scen) (t : List Entry) : Type 0 where
   pub state : State s.settings.log (first_value s) (view s t)
   pub counted : key_number t ≤ length t

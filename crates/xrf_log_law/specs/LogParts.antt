@@ -4,6 +4,7 @@ use Rattle.xrf_logrec.specs.declared.records.LogRec.{LogRec}
 use Rattle.xrf_log.specs.Scan.{Scanned}
 use Rattle.xrf_log_law.specs.LogSlots.{nth_old}
 
+-- records that are those of the log from a start on
 pub record IsPart (log : List LogRec) (start : ℕ) (records : List LogRec) : Type 0 where
   pub within : start + length records ≤ length log
   pub same : (j : ℕ) → j < length records → nth_old records j ≡ nth_old log (start + j)

@@ -20,6 +20,7 @@ use Rattle.xrf_trace.specs.Book.{puts, value_after}
 abbrev pub uses : ℕ → List LogRec → Bool
 uses n log = list_any (λ rec. (unit_of rec).inc == n) log
 
+-- the units of a log are units
 abbrev pub AreUnits : List LogRec → Type 0
 AreUnits [] = Unit {0}
 AreUnits (rec ∷ log) = AreUnits log × IsUnit (unit_of rec)
@@ -30,13 +31,16 @@ IsOfFile file (Put unit rrn before) = (1 ≤ rrn) × (rrn ≤ file)
 IsOfFile file (Commit unit) = Unit {0}
 IsOfFile file (Backout unit) = Unit {0}
 
+-- so are those of a log
 abbrev pub AreOfFile : ℕ → List LogRec → Type 0
 AreOfFile file [] = Unit {0}
 AreOfFile file (rec ∷ log) = AreOfFile file log × IsOfFile file rec
 
+-- a number that is granted and not restarted is of no record
 abbrev pub IsFresh : List LogRec → List Event → Type 0
 IsFresh log h = is_granted h ≡ true → is_restarted h ≡ false → uses (number h) log ≡ false
 
+-- the ranges of a trace
 pub record InRanges (s : Scen) (t : List Entry) : Type 0 where
   pub units : AreUnits (log t)
   pub file : AreOfFile s.settings.file (log t)

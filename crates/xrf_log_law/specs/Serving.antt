@@ -40,9 +40,11 @@ pub record SiteView : Type 0 where
   pub plan : Plan
   pub opened : Opened
 
+-- of a trace
 abbrev pub site_view : Scen → List Entry → Site → SiteView
 site_view s t x = record { item = item_at s x (items_taken t x); plan = last_plan s t x; opened = opened s t x }
 
+-- after an act
 abbrev pub site_after : Scen → List Entry → Site → Act → Land → SiteView
 site_after s t x a l = record {
   item = item_at s x (if is_item a then items_taken t x + 1 else items_taken t x);
@@ -53,8 +55,11 @@ site_after s t x a l = record {
 -- an item that is carried out, against the units that are open
 abbrev pub Serving : Option Item → Ledger → Plan → Type 0
 Serving given l (plans.Put unit rrn value place) = (name : List ℕ) × (given ≡ Some (items.Put name rrn value)) × (unit_named name l.units ≡ Some unit)
-Serving given l (plans.Get rrn) = (name : List ℕ) × (given ≡ Some (items.Get name rrn)) × ((unit : UnitId) × (unit_named name l.units ≡ Some unit) × (is_locked unit rrn l.puts ≡ false))
-Serving given l (plans.Commit unit place) = (name : List ℕ) × (given ≡ Some (items.Commit name)) × (IsOpenUnit unit l.units → unit_named name l.units ≡ Some unit)
+Serving given l (plans.Get rrn) =
+    (name : List ℕ) × (given ≡ Some (items.Get name rrn)) × ((unit : UnitId) × (unit_named name l.units ≡ Some unit)
+    × (is_locked unit rrn l.puts ≡ false))
+Serving given l (plans.Commit unit place) =
+    (name : List ℕ) × (given ≡ Some (items.Commit name)) × (IsOpenUnit unit l.units → unit_named name l.units ≡ Some unit)
 Serving given l (plans.Roll unit place) = (name : List ℕ) × (given ≡ Some (items.Roll name)) × (IsOpenUnit unit l.units → unit_named name l.units ≡ Some unit)
 Serving given l (plans.Answer answer) = Unit {0}
 
@@ -64,15 +69,18 @@ IsRead (plans.Put unit k value place) rrn = k ≡ rrn
 IsRead (plans.Get k) rrn = k ≡ rrn
 IsRead _ rrn = ⊥
 
+-- a write is that of the plan
 abbrev pub IsWrite : Plan → UnitId → ℕ → List ℕ → Type 0
 IsWrite (plans.Put u k v place) unit rrn value = (u ≡ unit) × (k ≡ rrn) × (v ≡ value)
 IsWrite _ unit rrn value = ⊥
 
+-- an act on the file is of the plan
 abbrev pub OfPlan : Plan → Want → Type 0
 OfPlan plan (want.FileRead rrn) = IsRead plan rrn
 OfPlan plan (want.FileWrite unit rrn value) = IsWrite plan unit rrn value
 OfPlan plan _ = Unit {0}
 
+-- the units of a ledger
 abbrev pub opened_of : Ledger → Opened
 opened_of l = record { begun = l.begun; units = l.units }
 
@@ -89,5 +97,6 @@ Serves p h v =
     × (is_active h ≡ true → is_sound h ≡ true → is_restarted h ≡ true → ServesWork p h v)
     × (is_sound h ≡ false → IfSome (inside p h) Idle)
 
+-- of the job of each site
 abbrev pub SitesServe : Scen → List Entry → Type 0
 SitesServe s t = (x : Site) → IfSome (hist s t x) (λ h. Serves (settings s x) h (site_view s t x))

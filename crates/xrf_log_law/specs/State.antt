@@ -26,10 +26,12 @@ abbrev pub key_after : Act → Land → ℕ → ℕ
 key_after (act.KpOpen k keypoint) land before = if opens land then keypoint.number else before
 key_after _ land before = before
 
+-- of a trace
 abbrev pub key_number : List Entry → ℕ
 key_number [] = 0
 key_number (e ∷ t) = key_after e.act e.land (key_number t)
 
+-- what is read of a trace
 pub record View : Type 0 where
   pub log : List LogRec
   pub start : ℕ
@@ -39,9 +41,11 @@ pub record View : Type 0 where
   pub image : ℕ → List ℕ
   pub puts : UnitId → List (ℕ × List ℕ)
 
+-- of a trace
 abbrev pub view : Scen → List Entry → View
 view s t = record { log = log t; start = start t; slot = log_slot s t; number = key_number t; key = key_slot t; image = image s t; puts = puts t }
 
+-- after an act
 abbrev pub after : (size : ℕ) → Act → Land → View → View
 after size a l v = record {
   log = log_after a l v.log;
@@ -53,6 +57,7 @@ after size a l v = record {
   puts = λ unit. puts_after unit a l (v.puts unit);
 }
 
+-- what is read of the log and its slots
 abbrev pub log_part : View → LogView
 log_part v = record { log = v.log; start = v.start; slot = v.slot }
 
@@ -60,6 +65,7 @@ log_part v = record { log = v.log; start = v.start; slot = v.slot }
 abbrev pub value_at : (ℕ → Option (List ℕ)) → View → ℕ → Option (List ℕ)
 value_at first v r = value_by v.puts r (committed v.log) (first r)
 
+-- the slot of the book
 abbrev pub booked : (ℕ → Option (List ℕ)) → View → ℕ → List ℕ
 booked first v r = slot_of (value_at first v r)
 
@@ -80,6 +86,7 @@ pub record KeysStand (number start : ℕ) (key : ℕ → Slot) : Type 0 where
   pub other : IfSome (keypoint_at (key ((number + 1) % 2))) (λ keypoint. keypoint.number < number)
   pub first : number ≡ 0 → start ≡ 0
 
+-- what any stop leaves
 pub record State (size : ℕ) (first : ℕ → Option (List ℕ)) (v : View) : Type 0 where
   pub log : LogStands size (log_part v)
   pub whole : (i : ℕ) → length (v.slot i).body ≡ 63
@@ -90,7 +97,8 @@ pub record State (size : ℕ) (first : ℕ → Option (List ℕ)) (v : View) : T
   pub keys : KeysStand v.number v.start v.key
   pub keys_whole : (i : ℕ) → length (v.key i).body ≡ 63
   pub undone : IsUndone (open_puts v.log) v.image (booked first v)
-  pub unput : (unit : UnitId) (r : ℕ) → has_ended unit v.log ≡ false → has_put unit r (open_puts v.log) ≡ false → (x : Option (List ℕ)) → value_after r (v.puts unit) x ≡ x
+  pub unput : (unit : UnitId) (r : ℕ) → has_ended unit v.log ≡ false → has_put unit r (open_puts v.log) ≡ false → (x : Option (List ℕ))
+      → value_after r (v.puts unit) x ≡ x
 
 -- what is due of a record that is written next
 abbrev pub RecordDue : (size : ℕ) → (ℕ → Option (List ℕ)) → View → LogRec → Type 0

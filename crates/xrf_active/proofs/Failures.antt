@@ -1,9 +1,10 @@
 -- What a failed act changes.
-use Rattle.std.proofs.Common.{◌≡◌, ◌∙◌, sym, ap, refl, ℕ, Bool, true, false, ◌&&◌, ◌||◌, not, cond, List, [], ◌∷◌, filter, Option, Some, None}
-use Rattle.std.specs.Prelude.{if◌then◌else◌}
+use Rattle.std.proofs.Common.{subst, ◌≡◌, ◌∙◌, sym, ap, refl, ℕ, Bool, true, false, ◌&&◌, ◌||◌, not, cond, List, [], ◌∷◌, filter, Option, Some, None}
+use Rattle.std.specs.Prelude.{if◌then◌else◌, nat_le}
 use Rattle.xrf_base.specs.declared.items.UnitId.{UnitId}
 use Rattle.xrf_ctl.specs.declared.parts.OwnerState.{OwnerState}
 use Rattle.xrf_ctl.specs.declared.parts.OwnerState.TheVariants.{OffAbend}
+use Rattle.xrf_logrec.specs.declared.records.LogRec.{LogRec}
 use Rattle.xrf_history.specs.declared.settings.Settings.{Settings}
 use Rattle.xrf_history.specs.declared.want.Want.{Want}
 use Rattle.xrf_history.specs.declared.want.Want.TheVariants as want
@@ -16,8 +17,13 @@ use Rattle.xrf_history.specs.Working.{ledger, undone_of_item}
 use Rattle.xrf_history.specs.Sending.{sent, is_end_sent, message_of_change}
 use Rattle.xrf_log.specs.Flight.{flight}
 use Rattle.xrf_active.specs.declared.sending.Sending.{Sending}
+use Rattle.xrf_history.specs.Rows.{log_write}
+use Rattle.xrf_active.specs.declared.active.Active.{Active}
+use Rattle.xrf_active.specs.declared.due.Due.{Due}
+use Rattle.xrf_active.specs.declared.due.Due.TheVariants as dues
+use Rattle.xrf_active.specs.Dues.{act_of}
 use Rattle.xrf_active.specs.Failing.{IsQuiet}
-use Rattle.xrf_active.specs.Standing.{AreSmall, Sends}
+use Rattle.xrf_active.specs.Standing.{AreSmall, Sends, Stands}
 
 either : (c : Bool) → cond c None (Some OffAbend) ≡ cond (not c) (Some OffAbend) None
 either true = refl
@@ -100,3 +106,23 @@ left-quiet p tried at h q = by (flight (scan p h).records)
     by : (units : List UnitId) → filter (λ unit. not (has_backout unit (ActFailed tried at ∷ h))) units ≡ filter (λ unit. not (has_backout unit h)) units
     by [] = refl
     by (unit ∷ units) = rw (q.backs_out unit) (ap (λ (l : List UnitId). cond (not (has_backout unit h)) (unit ∷ l) l) (by units))
+
+-- the first act of a write of a log record is none that is counted
+pub quiet-write : (p : Settings) (place : ℕ) (rec : LogRec) → IsQuiet (log_write p place rec) false
+quiet-write p place rec = by (nat_le p.limits.log place)
+  where
+    by : (b : Bool) → IsQuiet (elim b [ true ↦ want.LogLook place | false ↦ want.LogBody place rec ]) false
+    by true = refl
+    by false = refl
+
+abbrev pub is_backout : Due → Bool
+is_backout (dues.Backout place rec) = true
+is_backout _ = false
+
+pub quiet-backout : (p : Settings) (due : Due) → is_backout due ≡ true → IsQuiet (act_of p due) false
+quiet-backout p (dues.Backout place rec) is = quiet-write p place rec
+quiet-backout p _ is = absurd (cc)
+
+-- a job that stands after an act that failed stands after the same act
+pub failed-act : (job : Active) (h : List Event) (at : ℕ) (tried act : Want) → tried ≡ act → Stands job (ActFailed tried at ∷ h) → Stands job (ActFailed act at ∷ h)
+failed-act job h at tried act same stands = subst (λ (w : Want). Stands job (ActFailed w at ∷ h)) same stands

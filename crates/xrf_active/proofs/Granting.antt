@@ -1,5 +1,6 @@
 -- A job that signs on as active is an owner by its first CTLWRITE.
-use Rattle.std.proofs.Common.{◌≡◌, Bool, true, false, List, ◌∷◌, Some, refl, ◌∙◌, arith}
+use Rattle.std.proofs.Common.{◌≡◌, ℕ, ◌<◌, Bool, true, false, List, ◌∷◌, Some, refl, ◌∙◌, arith}
+use Rattle.std.specs.Prelude.{nat_lt}
 use Rattle.std.proofs.lemmas.Grind.{common_steps}
 use Rattle.xrf_base.specs.declared.site.Site.{Site}
 use Rattle.xrf_ctl.specs.declared.parts.Level.{Level}
@@ -9,10 +10,14 @@ use Rattle.xrf_cavm.specs.Grants.{grant_active}
 use Rattle.xrf_cavm.specs.Record.{is_owner as names_owner}
 use Rattle.xrf_history.specs.declared.settings.Settings.{Settings}
 use Rattle.xrf_history.specs.Events.{Event, ControlWritten}
-use Rattle.xrf_history.specs.Holding.{is_granted, is_owner, starts_active}
+use Rattle.xrf_history.specs.Holding.{number, is_granted, is_owner, starts_active}
 use Rattle.xrf_history.specs.Taking.{is_draining}
 use Rattle.xrf_history.specs.Reserving.{SignOnActive, purpose, granted, known_read, record_read}
 use Rattle.xrf_history.specs.Next.{record_for}
+
+-- it is granted where its incarnation is not 0
+pub granted-above : (h : List Event) (inc : ℕ) → is_granted h ≡ nat_lt 0 (number h) → inc ≡ number h → 0 < inc → is_granted h ≡ true
+granted-above h inc same e above = grind (arith, common_steps)
 
 -- the record that is granted names its last incarnation as owner
 pub granted-owner : (r : ControlRecord) (site : Site) (known : Known) (level : Level) (w : ControlRecord) → granted (grant_active r site known level) ≡ Some w → names_owner w w.last ≡ true

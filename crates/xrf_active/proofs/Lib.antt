@@ -6,3 +6,4 @@ pub mod Plans
 pub mod Undoing
 pub mod Rows
 pub mod Small
+pub mod Taken

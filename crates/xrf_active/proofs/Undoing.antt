@@ -9,7 +9,7 @@ use Rattle.xrf_log.specs.Scan.{Scanned}
 use Rattle.xrf_history.specs.declared.settings.Settings.{Settings}
 use Rattle.xrf_history.specs.declared.want.Want.TheVariants as want
 use Rattle.xrf_history.specs.Events.{Event}
-use Rattle.xrf_history.specs.Holding.{is_restarted}
+use Rattle.xrf_history.specs.Holding.{is_granted, is_restarted}
 use Rattle.xrf_history.specs.Restarting.{scan, undone, backouts_left, records_opened, next_record}
 use Rattle.xrf_history.specs.Rows.{log_write, restart_next}
 use Rattle.xrf_history.specs.Next.{record_at_hand}
@@ -39,8 +39,8 @@ backout-next p h unit over past left at =
     let units = left ∙ drop-get (flight (scan p h).records) (records_opened h) unit at in
     rw (over, restart_next, none, units) refl
 
-pub backout-hand : (p : Settings) (h : List Event) (unit : UnitId) → is_restarted h ≡ false → (scan p h).ended ≡ true
+pub backout-hand : (p : Settings) (h : List Event) (unit : UnitId) → is_granted h ≡ true → is_restarted h ≡ false → (scan p h).ended ≡ true
     → backouts_left p h ≡ drop (records_opened h) (flight (scan p h).records) → slice_get (flight (scan p h).records) (records_opened h) ≡ Some unit → AtHand p h (Backout unit)
-backout-hand p h unit running over left at =
+backout-hand p h unit granted running over left at =
     let units = left ∙ drop-get (flight (scan p h).records) (records_opened h) unit at in
-    record { at_hand = rw (running, record_at_hand, units) refl; pending = λ e. absurd (cc); scanned = over }
+    record { at_hand = rw (running, record_at_hand, units) refl; pending = λ e. absurd (cc); scanned = over; granted = granted }

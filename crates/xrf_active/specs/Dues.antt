@@ -32,12 +32,12 @@ act_of p due.Item = want.Item
 -- what is known where it begins
 abbrev pub Begins : Due → Settings → List Event → Type 0
 Begins (due.Round signal) p h = (is_granted h ≡ true) × (signal ≡ signal_of h (rounds h + 1))
-Begins (due.Drain place) p h = (is_draining h ≡ true) × (is_restarted h ≡ false)
-Begins (due.Scan block) p h = (scan p h).ended ≡ false
-Begins (due.Undo undo) p h = is_restarted h ≡ false
+Begins (due.Drain place) p h = (is_draining h ≡ true) × (is_restarted h ≡ false) × (is_granted h ≡ true)
+Begins (due.Scan block) p h = ((scan p h).ended ≡ false) × (is_granted h ≡ true)
+Begins (due.Undo undo) p h = (is_restarted h ≡ false) × (is_granted h ≡ true)
 Begins (due.Backout place rec) p h = AtHand p h rec
 Begins due.Restarted p h = (is_restarted h ≡ false) × ((scan p h).ended ≡ true) × (is_draining h ≡ false)
-Begins (due.Message place message) p h = (is_restarted h ≡ true) × (message_at_hand p h ≡ Some message)
-Begins (due.Keypoint keypoint) p h = (is_restarted h ≡ true) × (keypoint ≡ next_keypoint p h)
-Begins due.Item p h = is_restarted h ≡ true
+Begins (due.Message place message) p h = (is_restarted h ≡ true) × (message_at_hand p h ≡ Some message) × (is_granted h ≡ true)
+Begins (due.Keypoint keypoint) p h = (is_restarted h ≡ true) × (keypoint ≡ next_keypoint p h) × (is_granted h ≡ true)
+Begins due.Item p h = (is_restarted h ≡ true) × (is_granted h ≡ true)
 Begins _ p h = Unit {0}

@@ -117,6 +117,7 @@ impl Active {
 
     // what is due of the restart
     fn restart_due(&self) -> Due
+        requires inc { 0 < self.now.common.inc }
         requires stands { (h : List Event) × Stands self.now h × (length h < 16386) }
         requires restarts { self.now.has_restarted ≡ false }
         requires drained { self.now.is_draining ≡ false }
@@ -141,6 +142,7 @@ impl Active {
 
     // what is due after the restart
     fn active_due(&self) -> Due
+        requires inc { 0 < self.now.common.inc }
         requires stands { (h : List Event) × Stands self.now h × (length h < 16386) }
         requires restarted { self.now.has_restarted ≡ true }
         ensures act { (h : List Event) → Stands self.now h → act_of self.now.settings result ≡ active_next self.now.settings h (message_due self.now.settings h) }
@@ -154,7 +156,8 @@ impl Active {
 
     // what is due where a message is
     fn sending_due(&self, message: Message) -> Due
-        requires { (h : List Event) × Stands self.now h }
+        requires inc { 0 < self.now.common.inc }
+        requires stands { (h : List Event) × Stands self.now h }
         ensures act { (h : List Event) → Stands self.now h → message_due self.now.settings h ≡ Some message → act_of self.now.settings result ≡ message_next self.now.settings h message }
         ensures begins { (h : List Event) → Stands self.now h → self.now.has_restarted ≡ true → message_due self.now.settings h ≡ Some message → Begins result self.now.settings h }
     {
@@ -171,6 +174,7 @@ impl Active {
     // what is due where no message is
     #[tactic(auto, using(crate::proofs::Small::small_numbers))]
     fn item_due(&self) -> Due
+        requires inc { 0 < self.now.common.inc }
         requires stands { (h : List Event) × Stands self.now h × (length h < 16386) }
         requires restarted { self.now.has_restarted ≡ true }
         ensures act { (h : List Event) → Stands self.now h → act_of self.now.settings result ≡ work_next self.now.settings h }

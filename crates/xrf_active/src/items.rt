@@ -5,7 +5,7 @@ ghost use Rattle.xrf_base.specs.Values.{slot_reading};
 ghost use Rattle.xrf_terms.specs.declared.rows.Row.{Row as Held};
 ghost use Rattle.xrf_file.specs.Ledger.{IsUnitItem, IsPending, undo_rows};
 ghost use Rattle.xrf_history.specs.Events.{Event, Given, RecordRead, RecordWritten, RecordUndone};
-ghost use Rattle.xrf_history.specs.Holding.{is_restarted};
+ghost use Rattle.xrf_history.specs.Holding.{is_granted, is_restarted};
 ghost use Rattle.xrf_history.specs.Reserving.{or_else, state_by_item};
 ghost use Rattle.xrf_history.specs.Terminals.{terminal_answer, table as table_of};
 ghost use Rattle.xrf_history.specs.Sending.{change_message, is_done};
@@ -80,7 +80,7 @@ fn roll_stage(p: &Settings, units: &Units, unit: UnitId, place: u32, rolled: u32
 // where an item goes on that is planned so
 fn item_stage(p: &Settings, units: &Units, plan: &Plan) -> Stage
     ensures stage { (h : List Event) → undone_of_item h ≡ 0 → units.now ≡ ledger p.now h → inside_of result ≡ after_item p.now h plan.now }
-    ensures within { (h : List Event) → is_restarted h ≡ true → (scan p.now h).ended ≡ true → plan.now ≡ last_plan p.now h → IsPending (ledger p.now h) plan.now → Within result p.now h }
+    ensures within { (h : List Event) → is_restarted h ≡ true → (scan p.now h).ended ≡ true → plan.now ≡ last_plan p.now h → IsPending (ledger p.now h) plan.now → is_granted h ≡ true → Within result p.now h }
 {
     match *plan {
         Plan::Answer(_) => Stage::Boundary,
@@ -153,7 +153,7 @@ impl Active {
     pub(crate) fn unit_item_given(&mut self, item: &Item) -> Option<ItemAnswer>
         requires item { IsUnitItem item.now }
         requires stands { (h : List Event) × Stands self.old h × (length h < 16385) × (is_restarted h ≡ true) }
-        ensures stands { (h : List Event) → Stands self.old h → is_restarted h ≡ true → Stands self.new (Given item.now ∷ h) }
+        ensures stands { (h : List Event) → Stands self.old h → is_restarted h ≡ true → is_granted h ≡ true → Stands self.new (Given item.now ∷ h) }
         ensures answer { (h : List Event) → Stands self.old h → is_restarted h ≡ true → result ≡ item_answer self.old.settings (Given item.now ∷ h) }
     {
         let plan = self.rooms.units.plan(item);
@@ -183,7 +183,7 @@ impl Active {
     /// It took an item.
     pub(crate) fn given(&mut self, item: &Item) -> Option<ItemAnswer>
         requires stands { (h : List Event) × Stands self.old h × (length h < 16385) × (is_restarted h ≡ true) }
-        ensures stands { (h : List Event) → Stands self.old h → is_restarted h ≡ true → Stands self.new (Given item.now ∷ h) }
+        ensures stands { (h : List Event) → Stands self.old h → is_restarted h ≡ true → is_granted h ≡ true → Stands self.new (Given item.now ∷ h) }
         ensures answer { (h : List Event) → Stands self.old h → is_restarted h ≡ true → result ≡ item_answer self.old.settings (Given item.now ∷ h) }
     {
         match item {
@@ -198,7 +198,7 @@ impl Active {
 
     /// It read the slot of an item's record. A GET is answered by it, and a PUT keeps it in the log.
     pub(crate) fn record_read(&mut self, slot: &[u8; 32]) -> Option<ItemAnswer>
-        ensures stands { (h : List Event) (rrn : ℕ) → Stands self.old h → is_restarted h ≡ true → IsPending (ledger self.old.settings h) (last_plan self.old.settings h) → Stands self.new (RecordRead rrn slot.now ∷ h) }
+        ensures stands { (h : List Event) (rrn : ℕ) → Stands self.old h → is_restarted h ≡ true → IsPending (ledger self.old.settings h) (last_plan self.old.settings h) → is_granted h ≡ true → Stands self.new (RecordRead rrn slot.now ∷ h) }
         ensures answer { result ≡ answer_of_read self.old.plan slot.now }
     {
         self.common.stage = read_stage(&self.settings, &self.plan, slot);
@@ -216,7 +216,7 @@ impl Active {
     #[tactic(auto, using(xrf_job::proofs::Counts::counts))]
     pub(crate) fn record_undone(&mut self, undo: &Undo)
         requires { (h : List Event) × Stands self.old h × (length h < 16385) }
-        ensures { (h : List Event) → Stands self.old h → is_restarted h ≡ true → IsPending (ledger self.old.settings h) (last_plan self.old.settings h) → Stands self.new (RecordUndone undo.now.rrn undo.now.before ∷ h) }
+        ensures { (h : List Event) → Stands self.old h → is_restarted h ≡ true → IsPending (ledger self.old.settings h) (last_plan self.old.settings h) → is_granted h ≡ true → Stands self.new (RecordUndone undo.now.rrn undo.now.before ∷ h) }
     {
         self.undone += 1;
         self.rolled += 1;
@@ -232,7 +232,7 @@ impl Active {
 // where an item goes on whose undo row is written back
 fn undone_stage(p: &Settings, units: &Units, plan: &Plan, rolled: u32) -> Stage
     ensures stage { (h : List Event) → undone_of_item h ≡ rolled → units.now ≡ ledger p.now h → inside_of result ≡ after_undo p.now h plan.now }
-    ensures within { (h : List Event) → is_restarted h ≡ true → (scan p.now h).ended ≡ true → plan.now ≡ last_plan p.now h → IsPending (ledger p.now h) plan.now → Within result p.now h }
+    ensures within { (h : List Event) → is_restarted h ≡ true → (scan p.now h).ended ≡ true → plan.now ≡ last_plan p.now h → IsPending (ledger p.now h) plan.now → is_granted h ≡ true → Within result p.now h }
 {
     match *plan {
         Plan::Roll { unit, place } => roll_stage(p, units, unit, place, rolled),
@@ -243,7 +243,7 @@ fn undone_stage(p: &Settings, units: &Units, plan: &Plan, rolled: u32) -> Stage
 // where an item goes on that read this slot
 fn read_stage(p: &Settings, plan: &Plan, slot: &[u8; 32]) -> Stage
     ensures stage { inside_of result ≡ after_file_read p.now slot.now plan.now }
-    ensures within { (h : List Event) → is_restarted h ≡ true → (scan p.now h).ended ≡ true → plan.now ≡ last_plan p.now h → slot.now ≡ slot_held h → IsPending (ledger p.now h) plan.now → Within result p.now h }
+    ensures within { (h : List Event) → is_restarted h ≡ true → (scan p.now h).ended ≡ true → plan.now ≡ last_plan p.now h → slot.now ≡ slot_held h → IsPending (ledger p.now h) plan.now → is_granted h ≡ true → Within result p.now h }
 {
     match *plan {
         Plan::Put {

@@ -2,7 +2,7 @@
 
 ghost use Rattle.std.specs.Prelude.{◌≡◌, ◌<◌, ◌∷◌, List, true, length};
 ghost use Rattle.xrf_history.specs.Events.{Event, KeyLooked, KeyClosed, KeyBodied, KeyOpened};
-ghost use Rattle.xrf_history.specs.Holding.{is_restarted};
+ghost use Rattle.xrf_history.specs.Holding.{is_granted, is_restarted};
 ghost use Rattle.xrf_history.specs.Working.{next_keypoint};
 ghost use Rattle.xrf_active.specs.Standing.{Stands};
 
@@ -14,7 +14,7 @@ use xrf_logrec::Keypoint;
 impl Active {
     /// It looked at the gate of a keypoint slot.
     pub(crate) fn key_looked(&mut self, place: u8, keypoint: Keypoint, gate: u8)
-        ensures { (h : List Event) → Stands self.old h → is_restarted h ≡ true → keypoint ≡ next_keypoint self.old.settings h → Stands self.new (KeyLooked place gate ∷ h) }
+        ensures { (h : List Event) → Stands self.old h → is_restarted h ≡ true → keypoint ≡ next_keypoint self.old.settings h → is_granted h ≡ true → Stands self.new (KeyLooked place gate ∷ h) }
     {
         self.common.stage = if gate == OPEN {
             Stage::KpClose(place, keypoint)
@@ -25,14 +25,14 @@ impl Active {
 
     /// It closed the slot.
     pub(crate) fn key_closed(&mut self, place: u8, keypoint: Keypoint)
-        ensures { (h : List Event) → Stands self.old h → is_restarted h ≡ true → keypoint ≡ next_keypoint self.old.settings h → Stands self.new (KeyClosed place ∷ h) }
+        ensures { (h : List Event) → Stands self.old h → is_restarted h ≡ true → keypoint ≡ next_keypoint self.old.settings h → is_granted h ≡ true → Stands self.new (KeyClosed place ∷ h) }
     {
         self.common.stage = Stage::KpBody(place, keypoint);
     }
 
     /// It wrote the keypoint behind the gate.
     pub(crate) fn key_bodied(&mut self, place: u8, keypoint: Keypoint)
-        ensures { (h : List Event) → Stands self.old h → is_restarted h ≡ true → keypoint ≡ next_keypoint self.old.settings h → Stands self.new (KeyBodied place keypoint ∷ h) }
+        ensures { (h : List Event) → Stands self.old h → is_restarted h ≡ true → keypoint ≡ next_keypoint self.old.settings h → is_granted h ≡ true → Stands self.new (KeyBodied place keypoint ∷ h) }
     {
         self.common.stage = Stage::KpOpen(place, keypoint);
     }

@@ -6,7 +6,7 @@ ghost use Rattle.xrf_file.specs.declared.answers.Plan.{Plan as Planned};
 ghost use Rattle.xrf_history.specs.Events.{Event, LogLooked, LogClosed, LogBodied, LogOpened};
 ghost use Rattle.xrf_history.specs.Rows.{log_write};
 ghost use Rattle.xrf_history.specs.declared.settings.Settings.{Settings as Set};
-ghost use Rattle.xrf_history.specs.Holding.{is_restarted};
+ghost use Rattle.xrf_history.specs.Holding.{is_granted, is_restarted};
 ghost use Rattle.xrf_history.specs.Working.{after_record, answer_of_record};
 ghost use Rattle.xrf_history.specs.Next.{record_of_plan, after_log_open};
 ghost use Rattle.xrf_job.specs.Stages.{AtHand, Within, inside_of};
@@ -110,7 +110,7 @@ fn logged_answer(rec: &LogRec) -> Option<ItemAnswer>
 // what a plan makes of a record of it that is in the log: the value of a put is written
 fn logged_stage(rec: &LogRec, plan: &Plan) -> Stage
     ensures stage { inside_of result ≡ after_log_open rec.now plan.now }
-    ensures within { (p : Set) (h : List Event) → Within result p h }
+    ensures within { (p : Set) (h : List Event) → is_granted h ≡ true → Within result p h }
 {
     match (rec, *plan) {
         (

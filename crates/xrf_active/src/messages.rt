@@ -2,7 +2,7 @@
 
 ghost use Rattle.std.specs.Prelude.{◌≡◌, ℕ, ◌<◌, ◌∷◌, List, Some, true, false, length};
 ghost use Rattle.xrf_history.specs.Events.{Event, MessageRead, MessageClosed, MessageBodied, MessageOpened};
-ghost use Rattle.xrf_history.specs.Holding.{is_restarted};
+ghost use Rattle.xrf_history.specs.Holding.{is_granted, is_restarted};
 ghost use Rattle.xrf_history.specs.Taking.{is_draining};
 ghost use Rattle.xrf_history.specs.Next.{message_at_hand};
 ghost use Rattle.xrf_active.specs.Standing.{Stands};
@@ -26,7 +26,7 @@ impl Active {
 
     /// It read the slot into which it writes a message.
     pub(crate) fn slot_read(&mut self, place: u32, message: &Message, slot: &[u8; 64])
-        ensures { (h : List Event) → Stands self.old h → is_restarted h ≡ true → message_at_hand self.old.settings h ≡ Some message.now → Stands self.new (MessageRead place slot.now ∷ h) }
+        ensures { (h : List Event) → Stands self.old h → is_restarted h ≡ true → message_at_hand self.old.settings h ≡ Some message.now → is_granted h ≡ true → Stands self.new (MessageRead place slot.now ∷ h) }
     {
         self.common.stage = if slot[0] == OPEN {
             Stage::MsgClose(place, *message)
@@ -37,14 +37,14 @@ impl Active {
 
     /// It closed the slot.
     pub(crate) fn message_closed(&mut self, place: u32, message: &Message)
-        ensures { (h : List Event) → Stands self.old h → message_at_hand self.old.settings h ≡ Some message.now → Stands self.new (MessageClosed place ∷ h) }
+        ensures { (h : List Event) → Stands self.old h → message_at_hand self.old.settings h ≡ Some message.now → is_granted h ≡ true → Stands self.new (MessageClosed place ∷ h) }
     {
         self.common.stage = Stage::MsgBody(place, *message);
     }
 
     /// It wrote the message behind the gate.
     pub(crate) fn message_bodied(&mut self, place: u32, message: &Message)
-        ensures { (h : List Event) → Stands self.old h → Stands self.new (MessageBodied place message.now ∷ h) }
+        ensures { (h : List Event) → Stands self.old h → is_granted h ≡ true → Stands self.new (MessageBodied place message.now ∷ h) }
     {
         self.common.stage = Stage::MsgOpen(place, *message);
     }

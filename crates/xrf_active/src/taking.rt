@@ -1,24 +1,91 @@
 //! How an owner takes what its acts give.
 
 ghost use Rattle.std.specs.Prelude.{◌≡◌, ℕ, ◌<◌, ◌≤◌, ◌∷◌, List, Option, None, true, false, length};
+ghost use Rattle.xrf_log.specs.Scan.{anchor_of};
 ghost use Rattle.xrf_history.specs.declared.answer.Answer.{Answer as An};
-ghost use Rattle.xrf_history.specs.Events.{Event, Looked1, Looked2, DecisionMade, MessageRead, BlockRead, RecordRead, Given};
+ghost use Rattle.xrf_history.specs.Events.{Event, Looked1, Looked2, DecisionMade, MessageRead, FirstBlockRead, BlockRead, RecordRead, Given, ActFailed};
 ghost use Rattle.xrf_history.specs.Looking.{change};
 ghost use Rattle.xrf_history.specs.Deciding.{cause};
-ghost use Rattle.xrf_history.specs.Answers.{is_plain, fits, made, place_of, gate_event};
+ghost use Rattle.xrf_history.specs.Answers.{is_plain, may_fail, fits, made, place_of, gate_event, event};
+ghost use Rattle.xrf_history.specs.Restarting.{scan};
 ghost use Rattle.xrf_history.specs.Working.{item_answer};
 ghost use Rattle.xrf_history.specs.Next.{next};
 ghost use Rattle.xrf_job.specs.declared.stage.Stage.{Stage as At};
 ghost use Rattle.xrf_active.specs.Standing.{Stands};
+ghost use Rattle.xrf_active.specs.Taking.{CanTake};
 
 use crate::active::Active;
 use crate::due::Due;
 use xrf_base::{Item, ItemAnswer, Tick};
 use xrf_cavm::Known;
 use xrf_ctl::{Control, Signal};
+use xrf_history::Answer;
 use xrf_job::Stage;
 
 impl Active {
+    /// Takes an answer, and gives that of the item that it ends.
+    pub fn take(&mut self, answer: &Answer) -> Option<ItemAnswer>
+        requires { (h : List Event) × CanTake self.old h answer.now }
+        ensures stands { (h : List Event) → CanTake self.old h answer.now → Stands self.new (event self.old.settings h answer.now ∷ h) }
+        ensures answer { (h : List Event) → CanTake self.old h answer.now → result ≡ item_answer self.old.settings (event self.old.settings h answer.now ∷ h) }
+    {
+        match answer {
+            Answer::Tick(_) => {
+                self.ticked();
+                None
+            }
+            Answer::Done(_) => self.done(),
+            Answer::Ctl(held, known) => {
+                self.control_read(held, *known);
+                None
+            }
+            Answer::Look1(held, signal) => {
+                self.look1_handed(held, signal);
+                None
+            }
+            Answer::Look2(signal, at) => {
+                self.look2_handed(signal, *at);
+                None
+            }
+            Answer::Decide(known, at) => {
+                self.decision_handed(*known, *at);
+                None
+            }
+            Answer::MsgSlot(slot) => {
+                self.slot_handed(slot);
+                None
+            }
+            Answer::LogBlock(block) => {
+                self.block_handed(block);
+                None
+            }
+            Answer::Anchored(block, keys) => {
+                self.first_block_handed(block, keys);
+                None
+            }
+            Answer::Gate(gate) => {
+                self.gate_handed(*gate);
+                None
+            }
+            Answer::FileSlot(slot) => self.record_handed(slot),
+            Answer::Item(item) => self.item_handed(item),
+            Answer::Exit(said, at) => {
+                self.exited(*said, *at);
+                None
+            }
+            Answer::Abend => {
+                self.abended();
+                None
+            }
+            Answer::Failed(_) => {
+                self.act_failed();
+                None
+            }
+            Answer::Reply(..) => None,
+            Answer::Cebt(..) => None,
+        }
+    }
+
     fn stage(&self) -> Stage
         ensures { result ≡ self.now.common.stage }
     {
@@ -201,6 +268,31 @@ impl Active {
         }
     }
 
+    // whether a block of the log is to be scanned
+    fn is_block_due(&self) -> bool
+        requires { (h : List Event) × Stands self.now h × (length h < 16385) }
+        ensures due { (h : List Event) (block keys : List ℕ) → Stands self.now h → fits self.now.settings h (next self.now.settings h) (An.Anchored block keys) ≡ true → result ≡ true }
+        ensures scans { (h : List Event) → Stands self.now h → result ≡ true → (scan self.now.settings h).ended ≡ false }
+    {
+        match self.common.stage {
+            Stage::Boundary => match self.due() {
+                Due::Scan(_) => true,
+                _ => false,
+            },
+            _ => false,
+        }
+    }
+
+    // the first block of the log is handed, and both keypoint slots
+    fn first_block_handed(&mut self, block: &[u8; 4096], keys: &[u8; 128])
+        requires { (h : List Event) × Stands self.old h × (length h < 16385) × (fits self.old.settings h (next self.old.settings h) (An.Anchored block.now keys.now) ≡ true) × ((anchor_of keys.now).number < 16384) × ((anchor_of keys.now).start < 16384) }
+        ensures { (h : List Event) → Stands self.old h → fits self.old.settings h (next self.old.settings h) (An.Anchored block.now keys.now) ≡ true → (anchor_of keys.now).number < 16384 → (anchor_of keys.now).start < 16384 → Stands self.new (FirstBlockRead block.now keys.now ∷ h) }
+    {
+        if self.is_block_due() {
+            self.first_block_read(block, keys);
+        }
+    }
+
     // the gate of a log or keypoint slot is handed
     fn gate_handed(&mut self, gate: u8)
         requires { (h : List Event) × Stands self.old h × (length h < 16385) × (fits self.old.settings h (next self.old.settings h) (An.Gate gate) ≡ true) }
@@ -248,6 +340,66 @@ impl Active {
                 _ => None,
             },
             _ => None,
+        }
+    }
+
+    // its act failed
+    fn act_failed(&mut self)
+        requires { (h : List Event) × Stands self.old h × (length h < 16385) × (may_fail (next self.old.settings h) ≡ true) }
+        ensures { (h : List Event) (at : ℕ) → Stands self.old h → may_fail (next self.old.settings h) ≡ true → Stands self.new (ActFailed (next self.old.settings h) at ∷ h) }
+    {
+        match self.stage() {
+            Stage::Boundary => self.row_failed(),
+            Stage::MsgClose(..) => self.quiet_failed(true),
+            Stage::MsgBody(..) => self.quiet_failed(true),
+            Stage::MsgOpen(_, message) => self.message_failed(&message),
+            Stage::LogLook(..) => self.quiet_failed(false),
+            Stage::LogClose(..) => self.quiet_failed(false),
+            Stage::LogBody(..) => self.quiet_failed(false),
+            Stage::LogOpen(_, rec) => {
+                if self.has_restarted {
+                    self.record_failed(&rec);
+                } else {
+                    self.backout_failed(&rec);
+                }
+            }
+            Stage::KpClose(..) => self.quiet_failed(false),
+            Stage::KpBody(..) => self.quiet_failed(false),
+            Stage::KpOpen(_, keypoint) => self.key_failed(keypoint),
+            Stage::FileRead(_) => self.quiet_failed(false),
+            Stage::FileWrite(..) => self.quiet_failed(false),
+            Stage::Undo(_) => self.undo_failed(),
+            Stage::Reserve => {}
+            Stage::CtlRead => {}
+            Stage::CtlWrite(_) => {}
+            Stage::Release => {}
+            Stage::Ended(_) => {}
+            Stage::Signal2(_) => {}
+            Stage::Look1 => {}
+            Stage::Look2 => {}
+            Stage::Decide => {}
+        }
+    }
+
+    // its act at a boundary failed
+    fn row_failed(&mut self)
+        requires stands { (h : List Event) × Stands self.old h × (length h < 16385) × (may_fail (next self.old.settings h) ≡ true) }
+        requires boundary { self.old.common.stage ≡ At.Boundary }
+        ensures { (h : List Event) (at : ℕ) → Stands self.old h → may_fail (next self.old.settings h) ≡ true → Stands self.new (ActFailed (next self.old.settings h) at ∷ h) }
+    {
+        match self.due() {
+            Due::Drain(_) => self.slot_failed(),
+            Due::Message(..) => self.slot_failed(),
+            Due::Scan(_) => self.quiet_failed(false),
+            Due::Undo(_) => self.undo_failed(),
+            Due::Backout(..) => self.quiet_failed(false),
+            Due::Keypoint(_) => self.quiet_failed(false),
+            Due::Nothing => {}
+            Due::Reserve => {}
+            Due::Exit(_) => {}
+            Due::Round(_) => {}
+            Due::Restarted => {}
+            Due::Item => {}
         }
     }
 }

@@ -57,21 +57,25 @@ pub record AtHand (p : Settings) (h : List Event) (rec : LogRec) : Type 0 where
   pub at_hand : record_at_hand p h ≡ Some rec
   pub pending : is_restarted h ≡ true → IsPending (ledger p h) (last_plan p h)
   pub scanned : (scan p h).ended ≡ true
+  pub granted : is_granted h ≡ true
 
--- What is known at a stage: what is written is what is at hand, and an item's plan waits until its record is
--- in the log.
+-- What is known at a stage: what is written is what is at hand, an item's plan waits until its record is in
+-- the log, and only a job that is granted works.
 abbrev pub Within : Stage → Settings → List Event → Type 0
 Within (stages.CtlWrite written) p h = record_for p h ≡ Some written
-Within (stages.MsgClose place message) p h = message_at_hand p h ≡ Some message
+Within (stages.MsgClose place message) p h = (message_at_hand p h ≡ Some message) × (is_granted h ≡ true)
+Within (stages.MsgBody place message) p h = is_granted h ≡ true
+Within (stages.MsgOpen place message) p h = is_granted h ≡ true
 Within (stages.LogLook place rec) p h = AtHand p h rec
 Within (stages.LogClose place rec) p h = AtHand p h rec
 Within (stages.LogBody place rec) p h = AtHand p h rec
 Within (stages.LogOpen place rec) p h = AtHand p h rec
-Within (stages.KpClose place keypoint) p h = (is_restarted h ≡ true) × (keypoint ≡ next_keypoint p h)
-Within (stages.KpBody place keypoint) p h = (is_restarted h ≡ true) × (keypoint ≡ next_keypoint p h)
-Within (stages.KpOpen place keypoint) p h = (is_restarted h ≡ true) × (keypoint ≡ next_keypoint p h)
-Within (stages.FileRead rrn) p h = (is_restarted h ≡ true) × IsPending (ledger p h) (last_plan p h)
-Within (stages.Undo undo) p h = (is_restarted h ≡ true) × IsPending (ledger p h) (last_plan p h)
+Within (stages.KpClose place keypoint) p h = (is_restarted h ≡ true) × (keypoint ≡ next_keypoint p h) × (is_granted h ≡ true)
+Within (stages.KpBody place keypoint) p h = (is_restarted h ≡ true) × (keypoint ≡ next_keypoint p h) × (is_granted h ≡ true)
+Within (stages.KpOpen place keypoint) p h = (is_restarted h ≡ true) × (keypoint ≡ next_keypoint p h) × (is_granted h ≡ true)
+Within (stages.FileRead rrn) p h = (is_restarted h ≡ true) × IsPending (ledger p h) (last_plan p h) × (is_granted h ≡ true)
+Within (stages.FileWrite unit rrn value) p h = is_granted h ≡ true
+Within (stages.Undo undo) p h = (is_restarted h ≡ true) × IsPending (ledger p h) (last_plan p h) × (is_granted h ≡ true)
 Within (stages.Signal2 signal) p h = is_granted h ≡ true
 Within stages.Look1 p h = is_granted h ≡ true
 Within stages.Look2 p h = is_granted h ≡ true

@@ -9,4 +9,4 @@ pub returns-in-FileRead-clause-stands : goal.returns-in-FileRead-clause-stands
 returns-in-FileRead-clause-stands c = λ h s fitting.
     let p = c.args.self.now.settings in
     let within = subst (λ (x : Stage). Within x p h) c.in-FileRead.is s.shared.within in
-    c.record_read.ensures.stands h (place_of (next p h)) s within.0 within.1
+    c.record_read.ensures.stands h (place_of (next p h)) s within.0 within.1 within.2

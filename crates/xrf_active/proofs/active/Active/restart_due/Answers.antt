@@ -4,6 +4,7 @@ use Rattle.xrf_log.specs.Scan.{Scanned, next_of}
 use Rattle.xrf_history.specs.Restarting.{scan, next_record}
 use Rattle.xrf_history.specs.Rows.{log_write}
 use Rattle.xrf_job.proofs.Counts.{opened-few}
+use Rattle.xrf_active.proofs.Granting.{granted-above}
 use Rattle.xrf_active.proofs.Small.{scan-small}
 use Rattle.xrf_active.proofs.Undoing.{undo-at, unit-at, undone-past, undo-next, backout-next, backout-hand}
 use Rattle.xrf_active.proofs.active.Active.restart_due.Goals as goal
@@ -38,5 +39,5 @@ returns-then-opened-flight_count-clause-begins c = λ h s.
     let p = c.args.self.now.settings in
     let over : (scan p h).ended ≡ true = cc (s.scanned) in
     let running = sym s.restarted ∙ c.requires.restarts in
-    backout-hand p h c.flight-unit.result running over (s.backs_out running)
+    backout-hand p h c.flight-unit.result (granted-above h c.args.self.now.common.inc s.shared.granted s.shared.inc c.requires.inc) running over (s.backs_out running)
     (unit-at p h c.args.self.now.rooms.scan c.args.self.now.opened c.flight-unit.result s.takes s.opens c.flight-unit.ensures)

@@ -11,7 +11,7 @@ use Rattle.xrf_active.proofs.Plans.{or_else-none, unit-state, unit-rows, kept-pl
 use Rattle.xrf_active.proofs.active.Active.unit_item_given.Goals as goal
 
 pub returns-clause-stands : goal.returns-clause-stands
-returns-clause-stands c = λ h s restarted.
+returns-clause-stands c = λ h s restarted granted.
     let p = c.args.self.now.settings in
     let item = c.args.item.now in
     let after : List Event = Given item ∷ h in
@@ -39,7 +39,7 @@ returns-clause-stands c = λ h s restarted.
         room = s.shared.room;
         expected = s.shared.expected;
         stage = c.item_stage-self.ensures.stage after refl units_are ∙ ap (λ (x : Plan). after_item p after x) plan_is;
-        within = c.item_stage-self.ensures.within after restarted (s.has_scanned restarted) plan_is waits;
+        within = c.item_stage-self.ensures.within after restarted (s.has_scanned restarted) plan_is waits granted;
       };
       rooms = record { sizes = s.rooms.sizes; units = ap (λ (l : Ledger). l.slots) c.plan-plan.ensures.after ∙ kept.slots ∙ s.rooms.units; records = ap (λ (l : Ledger). l.records) c.plan-plan.ensures.after ∙ kept.records ∙ s.rooms.records; scan = s.rooms.scan };
       owns = s.owns;

@@ -1,0 +1,36 @@
+use Rattle.std.proofs.Common.{◌≡◌, ◌∷◌, None, true, sym, subst}
+use Rattle.xrf_history.specs.declared.answer.Answer.{Answer}
+use Rattle.xrf_history.specs.Accepting.{may_take}
+use Rattle.xrf_history.specs.Answers.{event}
+use Rattle.xrf_history.specs.Working.{item_answer}
+use Rattle.xrf_history.specs.Next.{next}
+use Rattle.xrf_active.specs.Taking.{HasSmallKeys}
+use Rattle.xrf_active.proofs.Taken.{taken, gate-answer}
+use Rattle.xrf_active.proofs.active.Active.take.Goals as goal
+
+pub first_block_handed-requires : goal.first_block_handed-requires
+first_block_handed-requires c =
+    let p = c.args.self.now.settings in
+    let h = c.requires.0 in
+    let can = c.requires.1 in
+    let fitting = subst (λ (a : Answer). may_take p h a ≡ true) c.in-Anchored.is can.fitting in
+    let small = subst (λ (a : Answer). HasSmallKeys a) c.in-Anchored.is can.small_keys in
+    (h, can.stands, can.few, fitting, small.0, small.1)
+
+pub returns-in-Anchored-clause-stands : goal.returns-in-Anchored-clause-stands
+returns-in-Anchored-clause-stands c = λ h can.
+    let p = c.args.self.now.settings in
+    let fitting = subst (λ (a : Answer). may_take p h a ≡ true) c.in-Anchored.is can.fitting in
+    let small = subst (λ (a : Answer). HasSmallKeys a) c.in-Anchored.is can.small_keys in
+    taken _ p h _ _ c.in-Anchored.is (c.first_block_handed.ensures h can.stands fitting small.0 small.1)
+
+pub returns-in-Gate-clause-answer : goal.returns-in-Gate-clause-answer
+returns-in-Gate-clause-answer c = λ h can.
+    let p = c.args.self.now.settings in
+    sym (subst (λ (a : Answer). item_answer p (event p h a ∷ h) ≡ None) (sym c.in-Gate.is) (gate-answer p h (next p h) _))
+
+pub returns-in-Failed-clause-stands : goal.returns-in-Failed-clause-stands
+returns-in-Failed-clause-stands c = λ h can.
+    let p = c.args.self.now.settings in
+    let fails = subst (λ (a : Answer). may_take p h a ≡ true) c.in-Failed.is can.fitting in
+    taken _ p h _ _ c.in-Failed.is (c.act_failed.ensures h _ can.stands fails)

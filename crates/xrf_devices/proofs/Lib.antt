@@ -1,0 +1,4 @@
+pub mod FileLaws
+pub mod FirstLaws
+pub mod Parts
+pub mod SectorLaws

@@ -10,8 +10,10 @@ use Rattle.xrf_devices.specs.Standing.{FileIs}
 use Rattle.xrf_devices.proofs.Parts.{part-landed, part-before, part-behind}
 
 -- the slot of record k is another, and the others are as they were
-pub record-written : (records k : ℕ) (old new bytes : List ℕ) (image : ℕ → List ℕ) → length old ≡ 32 * records → length bytes ≡ 32 → 1 ≤ k → k ≤ records
-    → new ≡ landed old (record_place k) bytes → FileIs records old image → FileIs records new (λ i. elim (i == k) [ true ↦ bytes | false ↦ image i ])
+pub record-written : (records k : ℕ) (old new bytes : List ℕ) (image : ℕ → List ℕ)
+    → length old ≡ 32 * records → length bytes ≡ 32 → 1 ≤ k → k ≤ records
+    → new ≡ landed old (record_place k) bytes → FileIs records old image
+    → FileIs records new (λ i. elim (i == k) [ true ↦ bytes | false ↦ image i ])
 record-written records k old new bytes image size long least most is are i first last =
     ap (λ b. part b (record_place i) 32) is ∙ by (i == k) refl
   where

@@ -46,7 +46,8 @@ stands-first s ctl signals file messages log key ring logs records size control 
 }
 
 -- what a keypoint's write finds in the trace it finds in the slots
-pub key-finds : (slots : List Slot) (slot : ℕ → Slot) (a : Act) → length slots ≡ 2 → SlotsAre slots slot → KeyMayLand 2 slot a → KeyMayLand 2 (slot_of slots) a
+pub key-finds : (slots : List Slot) (slot : ℕ → Slot) (a : Act) → length slots ≡ 2 → SlotsAre slots slot → KeyMayLand 2 slot a
+    → KeyMayLand 2 (slot_of slots) a
 key-finds slots slot (act.KpClose k) two are may =
     (may.0, subst IsOpened (sym (are k (subst (λ n. k < n) (sym two) may.0))) may.1)
 key-finds slots slot (act.KpBody k keypoint) two are may =

@@ -31,7 +31,8 @@ part-before bytes from at place n inside before =
     ∙ ap (λ b. part b place n) (take-append-drop at bytes)
 
 -- and so is one behind it
-pub part-behind : (bytes from : List ℕ) (at place n : ℕ) → at ≤ length bytes → at + length from ≤ place → part (landed bytes at from) place n ≡ part bytes place n
+pub part-behind : (bytes from : List ℕ) (at place n : ℕ) → at ≤ length bytes → at + length from ≤ place
+    → part (landed bytes at from) place n ≡ part bytes place n
 part-behind bytes from at place n inside behind =
     let long : length (take at bytes) ≡ at = length-take-le at bytes inside in
     let front : length (take at bytes ++ from) ≡ at + length from = length-append (take at bytes) from ∙ ap (λ m. m + length from) long in

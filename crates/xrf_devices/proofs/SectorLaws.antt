@@ -72,7 +72,8 @@ zero-sectors2 signals is site.B = ap (λ (b : List ℕ). part b 64 64) is
 pub sectors-kept : (old new from : List ℕ) (signal : Site → Option SignalRecord) → length old ≡ 384 → length from ≡ 256 → new ≡ landed old 0 from
     → SectorsAre sector1_place old signal → SectorsAre sector1_place new signal
 sectors-kept old new from signal size long is are x =
-    subst (λ bytes. SectorIs bytes (signal x)) (sym (ap (λ b. part b (sector1_place x) 64) is ∙ part-behind old from 0 (sector1_place x) 64 (omega arith) (behind x))) (are x)
+    subst (λ bytes. SectorIs bytes (signal x)) (sym (ap (λ b. part b (sector1_place x) 64) is
+    ∙ part-behind old from 0 (sector1_place x) 64 (omega arith) (behind x))) (are x)
   where
     behind : (x : Site) → 0 + length from ≤ sector1_place x
     behind site.A = omega arith

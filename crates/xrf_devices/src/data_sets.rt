@@ -1,17 +1,14 @@
 //! The data sets.
 
-ghost use Rattle.std.specs.Prelude.{◌≡◌, ◌*◌, ◌+◌, ◌%◌, ◌<◌, ◌≤◌, ℕ, List, [], ◌∷◌, ◌++◌, IfOk, None, length};
-ghost use Rattle.xrf_base.specs.declared.site.Site.{Site};
-ghost use Rattle.xrf_ctl.specs.Control.{empty};
-ghost use Rattle.xrf_devices.specs.Places.{sector1_place};
-ghost use Rattle.xrf_devices.specs.Standing.{ControlIs, SectorsAre, StandsFor};
+ghost use Rattle.std.specs.Prelude.{◌≡◌, ◌*◌, ◌+◌, ◌%◌, ◌<◌, ◌≤◌, ℕ, List, [], ◌∷◌, ◌++◌, IfOk};
+ghost use Rattle.xrf_devices.specs.Standing.{StandsFor};
 ghost use Rattle.xrf_devices.specs.Writing.{MayLand};
 ghost use Rattle.xrf_gated.specs.Slots.{bytes_of};
 ghost use Rattle.xrf_trace.specs.Devices as trace;
 ghost use Rattle.xrf_trace.specs.Scenario.{Scen};
 ghost use Rattle.xrf_trace.specs.declared.entry.Entry.{Entry};
 
-use crate::control::{land_control, read_control, write_control};
+use crate::control::{first_ctl, land_control, read_control};
 use crate::file::{first_file, land_file, read_record};
 use crate::keys::land_key;
 use crate::log::{land_log, place_of};
@@ -41,17 +38,6 @@ pub struct DataSets {
     pub file: Extent,
     /// KEY: two slots of keypoints.
     pub key: Slots<KeyBody>,
-}
-
-// DFHXRCTL before the first sign-on
-fn first_ctl(alloc: Global) -> Result<Extent, AllocError>
-    ensures size { IfOk result (λ ctl. length ctl ≡ 384) }
-    ensures control { IfOk result (λ ctl. ControlIs ctl empty) }
-    ensures sectors { IfOk result (λ ctl. SectorsAre sector1_place ctl (λ x. None)) }
-{
-    let mut ctl = Extent::new(alloc, 384)?;
-    write_control(&mut ctl, &Control::empty());
-    Ok(ctl)
 }
 
 // one slot behind the other

@@ -14,5 +14,7 @@ mod log;
 mod messages;
 mod signals;
 mod slots;
+#[cfg(test)]
+mod tests;
 
 pub use data_sets::DataSets;

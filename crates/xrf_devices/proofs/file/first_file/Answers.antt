@@ -11,7 +11,8 @@ loop-done-init c = record {
 
 pub loop-done-preserved : goal.loop-done-preserved
 loop-done-preserved c = record {
-  file = one-more c.args.records c.args.first.now c.loop-done.done c.index-first-first.result c.write_record.new.file c.to_slot.result c.loop-done-test.true c.index-first-first.is
+  file = one-more c.args.records c.args.first.now c.loop-done.done c.index-first-first.result c.write_record.new.file c.to_slot.result
+      c.loop-done-test.true c.index-first-first.is
       c.to_slot.ensures.slot (c.write_record.ensures.file _ c.loop-done.invariant.file);
   size = c.write_record.ensures.size;
 }

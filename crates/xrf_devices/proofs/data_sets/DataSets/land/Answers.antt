@@ -20,7 +20,8 @@ returns c t stands =
       log_size = c.land_log.ensures.size ∙ stands.log_size;
       file_size = c.land_file.ensures.size ∙ ap (λ n. 32 * n) c.file.ensures.file;
       key_size = c.land_key.ensures.size ∙ stands.key_size;
-      control = subst (λ b. Spells b (trace.control (e ∷ t))) (sym c.land_signal1.ensures.control) (c.land_control.ensures.control (trace.control t) stands.control);
+      control = subst (λ b. Spells b (trace.control (e ∷ t))) (sym c.land_signal1.ensures.control)
+          (c.land_control.ensures.control (trace.control t) stands.control);
       sector1 = c.land_signal1.ensures.sectors (trace.sector1 t) (c.land_control.ensures.sectors (trace.sector1 t) stands.sector1);
       sector2 = c.land_signal2.ensures.sectors (trace.sector2 t) stands.sector2;
       messages = c.land_message.ensures.slots (trace.message_slot t) stands.messages;
@@ -28,5 +29,6 @@ returns c t stands =
           (c.land_log.ensures.slots (trace.log_slot s t) stands.log);
       key = c.land_key.ensures.slots (trace.key_slot t) stands.key;
       file = subst (λ (n : ℕ). FileIs n c.land_file.new.file (λ i. trace.image_after e.act e.land i (trace.image s t i))) c.file.ensures.file
-          (c.land_file.ensures.file (trace.image s t) (subst (λ (n : ℕ). FileIs n c.args.self.now.file (trace.image s t)) (sym c.file.ensures.file) stands.file));
+          (c.land_file.ensures.file (trace.image s t)
+          (subst (λ (n : ℕ). FileIs n c.args.self.now.file (trace.image s t)) (sym c.file.ensures.file) stands.file));
     }

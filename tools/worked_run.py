@@ -126,27 +126,26 @@ pub fn {name}()
     ensures runs {{ run {module}.scenario {module}.choices ≡ Ok {module}.trace }}
     ensures told {{ told_of {module}.scenario {module}.trace ≡ {module}.told }}
     ensures safe {{ Safe {module}.scenario {module}.trace }}
-{keeps}{{}}
+    ensures keeps {{ Promises {module}.scenario {module}.trace }}
+{{}}
 """
-KEEPS = "    ensures keeps {{ Promises {module}.scenario {module}.trace }}\n"
 HEAD = """//! {title}. Each function says what the run of its choices comes to.
 
 ghost use Rattle.std.specs.Prelude.{{◌≡◌, Ok}};
 ghost use Rattle.xrf_trace.specs.Runs.{{run}};
 ghost use Rattle.xrf_trace.specs.Safe.{{Safe}};
-{promises}ghost use Rattle.xrf_examples.specs.Making.{{told_of}};
+ghost use Rattle.xrf_trace.specs.Promises.{{Promises}};
+ghost use Rattle.xrf_examples.specs.Making.{{told_of}};
 """
-PROMISES = "ghost use Rattle.xrf_trace.specs.Promises.{Promises};\n"
 
 
 def functions(runs, are_long):
-    """The source of the functions of the runs, or of the long ones, of which no promise is computed."""
+    """The source of the functions of the runs, or of the long ones."""
     runs = [run for run in runs.values() if run.is_long == are_long]
-    text = HEAD.format(title="Worked runs of several hundred acts" if are_long else "Worked runs", promises="" if are_long else PROMISES)
+    text = HEAD.format(title="Worked runs of several hundred acts" if are_long else "Worked runs")
     text += "".join(f"ghost use Rattle.{run.crate}.specs.{run.file};\n" for run in runs)
     for run in runs:
-        keeps = "" if are_long else KEEPS.format(module=run.file)
-        text += FUNCTION.format(title=run.title, name=run.name, module=run.file, keeps=keeps)
+        text += FUNCTION.format(title=run.title, name=run.name, module=run.file)
     return text
 
 

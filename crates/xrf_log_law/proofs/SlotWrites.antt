@@ -14,7 +14,7 @@ use Rattle.xrf_trace.specs.declared.entry.Land.{Land}
 use Rattle.xrf_log_law.specs.LogSlots.{AtEnd, HoldsLast, LogStands, LogView, nth_old}
 use Rattle.xrf_log_law.proofs.Tests.{eq-false, eq-of-false, eq-of-true, eq-true}
 
--- a round on is a round further
+-- a round on is a round further on
 mul_step : (s a d : ℕ) → s * a + s ≤ s * (a + 1 + d)
 mul_step s a d = grind (arith, common_steps)
 

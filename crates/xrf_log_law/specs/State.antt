@@ -86,7 +86,7 @@ pub record KeysStand (number start : ℕ) (key : ℕ → Slot) : Type 0 where
   pub other : IfSome (keypoint_at (key ((number + 1) % 2))) (λ keypoint. keypoint.number < number)
   pub first : number ≡ 0 → start ≡ 0
 
--- what any stop leaves
+-- what holds of the data sets after any stop
 pub record State (size : ℕ) (first : ℕ → Option (List ℕ)) (v : View) : Type 0 where
   pub log : LogStands size (log_part v)
   pub whole : (i : ℕ) → length (v.slot i).body ≡ 63

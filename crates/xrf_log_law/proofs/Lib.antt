@@ -1,52 +1,52 @@
-pub mod SlotWrites
-pub mod Tests
-pub mod BodySizes
-pub mod Counts
-pub mod BeforeImageLaws
-pub mod ScanLaws
-pub mod RecordLaws
-pub mod KeyWrites
-pub mod NewestParts
-pub mod StateWrites
-pub mod StateActs
-mod Boundaries
-pub mod DueAtBoundary
-pub mod DueInSequence
-pub mod IdleJobs
-pub mod RestartSteps
-pub mod JobActs
+pub mod LogLaw
+mod InvariantLaw
+pub mod PromiseEntries
+mod AnswersLaw
+mod EndsLaw
+mod ClosedUnitsLaw
+mod ShutUnits
+mod AskedLaw
+mod ReadsLaw
+pub mod ConditionEntries
+mod ConditionActs
+pub mod KeyNumbers
+pub mod InvariantEntries
 pub mod InvariantActs
 mod BeforeActs
 mod SitesAfter
-pub mod InvariantEntries
-pub mod LedgerLaws
-pub mod DueOfItems
-pub mod LastValues
-pub mod LedgerSteps
-pub mod WorkInSequence
-pub mod WorkActs
+pub mod JobActs
+pub mod RestartSteps
+pub mod IdleJobs
 pub mod WorkBegins
+pub mod WorkActs
+pub mod WorkInSequence
+pub mod LastValues
+pub mod DueInSequence
+pub mod DueAtBoundary
+pub mod DueOfItems
+mod Boundaries
+mod ServingEntries
+mod ServingActs
+mod ServingSteps
 mod ActsOfPlans
 mod TraceLedgers
-mod ServingSteps
-mod ServingActs
-mod ServingEntries
-pub mod EndsInLog
-mod ReadsLaw
-mod AskedLaw
-mod AnswersLaw
-pub mod PromiseEntries
+mod RangeEntries
+mod RangeActs
+mod RecordRanges
 mod OwnRanges
 mod ValueRanges
-mod RecordRanges
-mod RangeActs
-mod RangeEntries
-mod ConditionActs
-pub mod ConditionEntries
-pub mod KeyNumbers
-mod ShutUnits
-mod ClosedUnitsLaw
-mod EndsLaw
-mod InvariantLaw
-pub mod LogLaw
+pub mod StateActs
+pub mod StateWrites
+pub mod RecordLaws
+pub mod BeforeImageLaws
+pub mod SlotWrites
+pub mod KeyWrites
+pub mod ScanLaws
+pub mod NewestParts
+pub mod LedgerSteps
+pub mod LedgerLaws
+pub mod EndsInLog
+pub mod BodySizes
+pub mod Counts
 mod SameRecords
+pub mod Tests

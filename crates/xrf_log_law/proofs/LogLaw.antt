@@ -15,6 +15,7 @@ use Rattle.xrf_trace.proofs.Steps.{Step}
 use Rattle.xrf_trace.proofs.ScenarioLaws.{in_ranges}
 use Rattle.xrf_log_law.specs.Invariant.{Invariant}
 use Rattle.xrf_owner_law.specs.Laws.{OfRuns}
+use Rattle.xrf_owner_law.proofs.DecisionLaw.{items-wait}
 use Rattle.xrf_log_law.specs.DataSets.{DataSetsStand}
 use Rattle.xrf_log_law.specs.Agreement.{LedgersAgree}
 use Rattle.xrf_trace.specs.Laws.{AnswersAlike, JobsAnswerAlike}
@@ -58,7 +59,7 @@ pub items-see-book : OfRuns ItemsSeeBook
 items-see-book s t scen is few =
     let all = each-entry s (Facts s) (facts s) t (in_ranges s scen) is few in
     record {
-      restarted = each-part (Facts s) _ t (λ t e facts. facts.restarted) all;
+      restarted = items-wait s t is;
       reads = each-part (Facts s) _ t (λ t e facts. facts.reads) all;
     }
 

@@ -9,7 +9,7 @@ use Rattle.xrf_history.specs.Progress.{is_active}
 use Rattle.xrf_trace.specs.Each.{AtSite, OfJob, Where}
 use Rattle.xrf_trace.specs.Entries.{inc_at}
 use Rattle.xrf_trace.specs.Items.{opened}
-use Rattle.xrf_trace.specs.ItemsSeeBook.{ReadsBook, TakesRestarted}
+use Rattle.xrf_trace.specs.ItemsSeeBook.{ReadsBook}
 use Rattle.xrf_trace.specs.UnitsAreItems.{IsAsked, IsOfNoEnded}
 use Rattle.xrf_trace.specs.declared.entry.Entry.{Entry}
 use Rattle.xrf_trace.specs.Scenario.{Scen, settings}
@@ -30,7 +30,7 @@ use Rattle.xrf_log_law.proofs.AskedLaw.{is-asked, of-no-ended}
 use Rattle.xrf_log_law.proofs.BeforeActs.{Before}
 use Rattle.xrf_log_law.proofs.TraceLedgers.{joined}
 use Rattle.xrf_log_law.proofs.AnswersLaw.{Same, answers-same}
-use Rattle.xrf_log_law.proofs.ReadsLaw.{reads-book, takes-restarted}
+use Rattle.xrf_log_law.proofs.ReadsLaw.{reads-book}
 use Rattle.xrf_log_law.proofs.InvariantActs.{before-next}
 use Rattle.xrf_trace.specs.Laws.{AnswersAlike}
 use Rattle.xrf_log_law.specs.Invariant.{Invariant}
@@ -41,7 +41,6 @@ use Rattle.xrf_trace.specs.declared.entry.Land.TheVariants as land
 
 -- of an entry
 pub record Facts (s : Scen) (t : List Entry) (e : Entry) : Type 0 where
-  pub restarted : AtSite s t e.who (λ x h. TakesRestarted h e.act)
   pub reads : AtSite s t e.who (λ x h. ReadsBook s t x e.act)
   pub asked : AtSite s t e.who (λ x h. IsAsked s t x h e.act)
   pub same : AnswersAlike s t e
@@ -49,7 +48,6 @@ pub record Facts (s : Scen) (t : List Entry) (e : Entry) : Type 0 where
 
 -- of an act of a job
 pub record ActFacts (s : Scen) (t : List Entry) (x : Site) (h : List Event) (a : Act) (l : Land) : Type 0 where
-  pub restarted : TakesRestarted h a
   pub reads : ReadsBook s t x a
   pub asked : IsAsked s t x h a
   pub same : Where (is_in_full l) (Same s t x h a)
@@ -64,14 +62,12 @@ where-job false job fact holds = tt
 entry-facts : (s : Scen) (t : List Entry) (x : Site) (i : ℕ) (a : Act) (l : Land) → IsOfNoEnded t a l
     → ((h : List Event) → hist s t x ≡ Some h → ActFacts s t x h a l) → Facts s t (made t x i a l)
 entry-facts s t site.A i a l once facts = record {
-  restarted = of-job (hist s t site.A) (λ h. TakesRestarted h a) (λ h e. (facts h e).restarted);
   reads = of-job (hist s t site.A) (λ h. ReadsBook s t site.A a) (λ h e. (facts h e).reads);
   asked = of-job (hist s t site.A) (λ h. IsAsked s t site.A h a) (λ h e. (facts h e).asked);
   same = where-job (is_in_full l) (hist s t site.A) (λ h. Same s t site.A h a) (λ h e. (facts h e).same);
   once = once;
 }
 entry-facts s t site.B i a l once facts = record {
-  restarted = of-job (hist s t site.B) (λ h. TakesRestarted h a) (λ h e. (facts h e).restarted);
   reads = of-job (hist s t site.B) (λ h. ReadsBook s t site.B a) (λ h e. (facts h e).reads);
   asked = of-job (hist s t site.B) (λ h. IsAsked s t site.B h a) (λ h e. (facts h e).asked);
   same = where-job (is_in_full l) (hist s t site.B) (λ h. Same s t site.B h a) (λ h e. (facts h e).same);
@@ -80,15 +76,15 @@ entry-facts s t site.B i a l once facts = record {
 
 -- an entry that is no act of a job
 no-act : (s : Scen) (t : List Entry) (x : Site) (h : List Event) (a : Act) (l : Land) → is_act a ≡ false → ActFacts s t x h a l
-no-act s t x h act.StartActive l none = record { restarted = tt; reads = tt; asked = tt; same = where-is (is_in_full l) _ refl }
-no-act s t x h act.StartStandby l none = record { restarted = tt; reads = tt; asked = tt; same = where-is (is_in_full l) _ refl }
-no-act s t x h act.Abend l none = record { restarted = tt; reads = tt; asked = tt; same = where-is (is_in_full l) _ refl }
-no-act s t x h (act.Reply go) l none = record { restarted = tt; reads = tt; asked = tt; same = where-is (is_in_full l) _ refl }
-no-act s t x h (act.Cebt command reply) l none = record { restarted = tt; reads = tt; asked = tt; same = where-is (is_in_full l) _ refl }
-no-act s t x h (act.Exit said) l none = record { restarted = tt; reads = tt; asked = tt; same = where-is (is_in_full l) _ refl }
-no-act s t x h act.NoAct l none = record { restarted = tt; reads = tt; asked = tt; same = where-is (is_in_full l) _ refl }
-no-act s t x h act.Tick l none = record { restarted = tt; reads = tt; asked = tt; same = where-is (is_in_full l) _ refl }
-no-act s t x h (act.Confirm n) l none = record { restarted = tt; reads = tt; asked = tt; same = where-is (is_in_full l) _ refl }
+no-act s t x h act.StartActive l none = record { reads = tt; asked = tt; same = where-is (is_in_full l) _ refl }
+no-act s t x h act.StartStandby l none = record { reads = tt; asked = tt; same = where-is (is_in_full l) _ refl }
+no-act s t x h act.Abend l none = record { reads = tt; asked = tt; same = where-is (is_in_full l) _ refl }
+no-act s t x h (act.Reply go) l none = record { reads = tt; asked = tt; same = where-is (is_in_full l) _ refl }
+no-act s t x h (act.Cebt command reply) l none = record { reads = tt; asked = tt; same = where-is (is_in_full l) _ refl }
+no-act s t x h (act.Exit said) l none = record { reads = tt; asked = tt; same = where-is (is_in_full l) _ refl }
+no-act s t x h act.NoAct l none = record { reads = tt; asked = tt; same = where-is (is_in_full l) _ refl }
+no-act s t x h act.Tick l none = record { reads = tt; asked = tt; same = where-is (is_in_full l) _ refl }
+no-act s t x h (act.Confirm n) l none = record { reads = tt; asked = tt; same = where-is (is_in_full l) _ refl }
 no-act s t x h _ l none = absurd (cc)
 
 -- it logs and writes nothing
@@ -109,18 +105,17 @@ quiet-none _ quiet = absurd (cc)
 -- an act of a job
 act-facts : (s : Scen) (t : List Entry) (x : Site) (h : List Event) (l : Land) (w : Want) → Before s t x h w
     → IfSome (act_of s t x h w) (λ a. ActFacts s t x h a l)
-act-facts s t x h l w b = over (act_of s t x h w) (takes-restarted s t x h w b) (reads-book s t x h w b) (is-asked s t x h w b) (answers-same s t x h w b)
+act-facts s t x h l w b = over (act_of s t x h w) (reads-book s t x h w b) (is-asked s t x h w b) (answers-same s t x h w b)
   where
-    over : (o : Option Act) → IfSome o (TakesRestarted h) → IfSome o (ReadsBook s t x) → IfSome o (IsAsked s t x h) → IfSome o (Same s t x h)
-        → IfSome o (λ a. ActFacts s t x h a l)
-    over None p q r u = tt
-    over (Some a) p q r u = record { restarted = p; reads = q; asked = r; same = where-is (is_in_full l) _ u }
+    over : (o : Option Act) → IfSome o (ReadsBook s t x) → IfSome o (IsAsked s t x h) → IfSome o (Same s t x h) → IfSome o (λ a. ActFacts s t x h a l)
+    over None p q r = tt
+    over (Some a) p q r = record { reads = p; asked = q; same = where-is (is_in_full l) _ r }
 
 -- of each kind of entry
 fact-kinds : (s : Scen) (t : List Entry) → Invariant s t → Kinds s t (λ e. Facts s t e)
 fact-kinds s t k = record {
-  tick = record { restarted = tt; reads = tt; asked = tt; same = tt; once = tt };
-  confirm = λ n. record { restarted = tt; reads = tt; asked = tt; same = tt; once = tt };
+  tick = record { reads = tt; asked = tt; same = tt; once = tt };
+  confirm = λ n. record { reads = tt; asked = tt; same = tt; once = tt };
   acts = λ x h a l job is fits may.
       (let b = before-next s t x h k job in
       let facts : ActFacts s t x h a l = subst (λ (o : Option Act). IfSome o (λ c. ActFacts s t x h c l)) is (act-facts s t x h l (next (settings s x) h) b) in

@@ -28,7 +28,7 @@ use Rattle.xrf_log_law.proofs.JobActs.{of-item}
 use Rattle.xrf_log_law.proofs.ServingActs.{sound-for}
 use Rattle.xrf_log_law.specs.Jobs.{is_idle}
 use Rattle.xrf_trace.specs.AtHand.{OfItem, item_at_hand}
-use Rattle.xrf_trace.specs.ItemsSeeBook.{IsSeenBy, ReadsBook, ReadsFor, TakesRestarted}
+use Rattle.xrf_trace.specs.ItemsSeeBook.{IsSeenBy, ReadsBook, ReadsFor}
 use Rattle.xrf_log_law.specs.BeforeImages.{has_put, other_has_put}
 use Rattle.xrf_log_law.proofs.LedgerLaws.{locked-free}
 use Rattle.xrf_log_law.proofs.EndsInLog.{none-covers}
@@ -67,13 +67,6 @@ item-at s t x h item serves given =
 -- a fact of the item at hand
 pub of-now : (fact : Item → Type 0) (o : Option Item) (item : Item) → o ≡ Some item → fact item → OfItem o fact
 of-now fact o item is holds = subst (λ (q : Option Item). OfItem q fact) (sym is) holds
-
--- an item is taken after RESTARTED
-pub takes-restarted : (s : Scen) (t : List Entry) (x : Site) (h : List Event) (w : Want) → Before s t x h w → IfSome (act_of s t x h w) (TakesRestarted h)
-takes-restarted s t x h want.Nothing b = tt
-takes-restarted s t x h (want.Exit told) b = tt
-takes-restarted s t x h want.Item b = of-item s t x (TakesRestarted h) b.due.0
-takes-restarted s t x h _ b = tt
 
 -- a GET
 pub reads-value : (s : Scen) (t : List Entry) (l : Ledger) (unit : UnitId) (k : ℕ) → State s.settings.log (first_value s) (view s t)

@@ -1,4 +1,4 @@
--- What an answer means, and that the trace answers as the job does, at each act.
+-- What an answer of Done means for the unit of a COMMIT or ROLL, and that the trace answers as the job does.
 use Rattle.std.proofs.Common.{List, Bool, Some, false, refl, sym, true, ◌≡◌, ℕ, ◌∷◌, ◌∙◌, IfSome, Option, subst, ◌+◌, None, ap, if◌then◌else◌}
 use Rattle.xrf_base.specs.declared.site.Site.{Site}
 use Rattle.xrf_base.specs.declared.items.Item.{Item}

@@ -1,4 +1,4 @@
--- What an answer means, what is written and what is logged, at each act.
+-- What is logged and put into the file is what the item at hand asks, and is of no unit that has ended.
 use Rattle.std.proofs.Common.{List, Some, ◌≡◌, ℕ, Option, ap, ◌∙◌, IfSome, refl, subst, Bool, false, filter, sym, true, [], ◌∷◌, if◌then◌else◌, not, ◌||◌}
 use Rattle.std.specs.Option.{option_map}
 use Rattle.std.specs.List.{list_any}

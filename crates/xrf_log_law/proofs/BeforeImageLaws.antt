@@ -1,4 +1,4 @@
--- The before-images over the file give the book.
+-- The before-images over the file give the book: what each act makes of them.
 use Rattle.std.proofs.Common.{Bool, List, false, refl, true, ◌≡◌, ℕ, ◌==◌, ◌||◌, [], ◌∷◌, if◌then◌else◌, map, filter, not, cond, ◌&&◌, arith, subst, ap, ◌∙◌, sym}
 use Rattle.std.specs.List.{list_any}
 use Rattle.std.proofs.lemmas.Grind.{common_steps}

@@ -1,4 +1,7 @@
 -- What the steps of a world ask of the log, the keypoints and the file, at each act.
+use Rattle.xrf_log_law.proofs.Counts.{in_range}
+use Rattle.xrf_log_law.proofs.RangeActs.{in-range}
+use Rattle.xrf_log_law.specs.Due.{job_view}
 use Rattle.xrf_log.specs.Flight.{puts as puts_of_log, has_ended, flight}
 use Rattle.std.proofs.Math.Nat.{div-add-mod, mod-lt}
 use Rattle.xrf_log.specs.Scan.{block_of_record, Scanned, after_block, after_anchors, anchor_of}
@@ -78,10 +81,15 @@ may-be-written s t x h want.Nothing b = tt
 may-be-written s t x h (want.Exit told) b = tt
 may-be-written s t x h want.Item b = of-item s t x (MayBeWritten s t) tt
 may-be-written s t x h (want.LogClose place) b = is-open (log_slot s t (place % s.settings.log)) b.due.2
-may-be-written s t x h (want.LogBody place rec) b = is-closed (log_slot s t (place % s.settings.log)) b.due.2
+may-be-written s t x h (want.LogBody place rec) b =
+    (is-closed (log_slot s t (place % s.settings.log)) b.due.2, in-range s t x h (want.LogBody place rec) b)
 may-be-written s t x h (want.LogOpen place rec) b = is-there _ (place, rec) b.due.4
 may-be-written s t x h (want.KpClose k) b = (below-two k _ b.due.0, is-open (key_slot t k) b.due.2)
-may-be-written s t x h (want.KpBody k keypoint) b = (below-two k _ b.due.0, is-closed (key_slot t k) b.due.2)
+may-be-written s t x h (want.KpBody k keypoint) b = (
+  below-two k _ b.due.0,
+  is-closed (key_slot t k) b.due.2,
+  (in_range s t x h s.settings.log (first_value s) (job_view (settings s x) h) (want.KpBody k keypoint) b.due b.few b.counted tt).in_range,
+)
 may-be-written s t x h (want.KpOpen k keypoint) b = (below-two k _ b.due.0, is-there _ keypoint b.due.3)
 may-be-written s t x h _ b = tt
 

@@ -1,4 +1,7 @@
 -- What the steps of a world ask of the log, the keypoints and the file, over whole runs.
+use Rattle.xrf_setup.specs.declared.choice.Landing.{Landing}
+use Rattle.xrf_setup.specs.declared.choice.Landing.TheVariants.{All, Nothing, Torn}
+use Rattle.xrf_trace.proofs.ByKind.{LandFits}
 use Rattle.std.proofs.Common.{true, ◌≡◌, IfSome, List, Option, None, Some, subst, sym, ℕ, ◌∷◌, refl, arith, ◌≤◌}
 use Rattle.xrf_base.specs.declared.site.Site.{Site}
 use Rattle.xrf_history.specs.Events.{Event}
@@ -35,6 +38,7 @@ quiet-fits s t x _ (Some h) quiet fits = absurd (cc)
 
 -- an entry
 pub record EntryConditions (s : Scen) (t : List Entry) (e : Entry) : Type 0 where
+  pub torn : LandFits e.land e.act
   pub within : IsWithin s e.act
   pub scans : ScansFit s (e ∷ t)
   pub written : MayBeWritten s t e.act
@@ -71,17 +75,24 @@ empty-fits size least = record { records = omega arith; block = omega (arith, le
 scan-least : (s : Scen) {t : List Entry} → Invariant s t → 64 ≤ s.settings.log
 scan-least s k = k.scen.limits.log_least
 
+-- a stop without an act tears nothing
+none-torn : (cut : Landing) → LandFits (land.Stop cut) act.NoAct
+none-torn Nothing = tt
+none-torn All = tt
+none-torn (Torn bytes) = tt
+
 -- of each kind of entry
 pub go-kinds : (s : Scen) (t : List Entry) → Invariant s t → Kinds s t (λ e. EntryConditions s t e)
 go-kinds s t k = record {
-  tick = record { within = tt; scans = tick k.scans; written = tt; reads = tt };
-  confirm = λ n. record { within = tt; scans = confirm n k.scans; written = tt; reads = tt };
+  tick = record { torn = tt; within = tt; scans = tick k.scans; written = tt; reads = tt };
+  confirm = λ n. record { torn = tt; within = tt; scans = confirm n k.scans; written = tt; reads = tt };
   acts = λ x h a l job is fits may.
       (let b = before-next s t x h k job in
       let here : ScanFits s.settings.log (scan (settings s x) h) = subst (λ (o : Option (List Event)). IfSome o (JobScanFits s x)) job (k.scans x) in
       let after : Fits s t x h a = subst (λ (o : Option Act). IfSome o (Fits s t x h)) is (fits-after s t x h _ b here) in
       let own : OwnAfter s t x a l (Some h) (JobScanFits s x) = own-after s t x h a l (JobScanFits s x) is may (unless-gone a (Fits s t x h a) after) here in
       record {
+        torn = fits;
         within = subst (λ (o : Option Act). IfSome o (IsWithin s)) is (is-within s t x h _ b here);
         scans =
             sites-after s t x (inc_at a (Some h)) a l (JobScanFits s)
@@ -91,6 +102,7 @@ go-kinds s t k = record {
         reads = subst (λ (o : Option Act). IfSome o (ReadsSlot s t)) is (reads-slot s t x h _ b);
       });
   quiet = λ x i a quiet. record {
+    torn = tt;
     within = quiet-within s a quiet;
     scans =
         sites-after s t x i a land.Full (JobScanFits s) (quiet-after s t x a (hist s t x) (JobScanFits s x) quiet
@@ -101,6 +113,7 @@ go-kinds s t k = record {
   };
   stop =
       λ x i cut. record {
+        torn = none-torn cut;
         within = tt;
         scans = sites-after s t x i act.NoAct (land.Stop cut) (JobScanFits s) tt refl
             (k.scans (other x));
@@ -108,12 +121,14 @@ go-kinds s t k = record {
         reads = tt;
       };
   active = λ x. record {
+    torn = tt;
     within = tt;
     scans = sites-after s t x 0 act.StartActive land.Full (JobScanFits s) (empty-fits s.settings.log (scan-least s k)) refl (k.scans (other x));
     written = tt;
     reads = tt;
   };
   standby = λ x. record {
+    torn = tt;
     within = tt;
     scans = sites-after s t x 0 act.StartStandby land.Full (JobScanFits s) (empty-fits s.settings.log (scan-least s k)) refl (k.scans (other x));
     written = tt;

@@ -90,7 +90,7 @@ restart-due p first v h state restart undoes =
     choose (Due p.limits.log first v (job_view p h)) (scan p h).ended _ _ (λ e. undo-due p first v h (rows_left p h) state restart e (undoes e) refl)
     (λ e. (restart, e, refl))
 
--- an alternate is_active none of it
+-- an alternate writes none of it
 pub idle-due : (size : ℕ) (first : ℕ → Option (List ℕ)) (v : View) (j : JobView) (w : Want) → is_idle w ≡ true → Due size first v j w
 idle-due size first v j (want.LogRead b) idle = absurd (cc)
 idle-due size first v j (want.LogLook place) idle = absurd (cc)

@@ -1,4 +1,4 @@
--- What is due inside a sequence, after each act, of the whole.
+-- What is due inside a sequence, after each act.
 use Rattle.std.proofs.Common.{Bool, false, true, ◌≡◌, List, None, Option, Some, ℕ, IfSome, ◌==◌, subst, sym, ◌%◌, refl, ap, arith, ◌∷◌, ◌∙◌, ◌+◌, ◌||◌, [], drop, length, nat_lt, if◌then◌else◌}
 use Rattle.std.proofs.lemmas.Grind.{common_steps}
 use Rattle.std.proofs.lemmas.List.{drop-drop}

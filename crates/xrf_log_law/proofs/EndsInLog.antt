@@ -1,4 +1,4 @@
--- What a log tells of its units.
+-- What a log tells of the end of a unit.
 use Rattle.std.proofs.Common.{List, refl, ◌≡◌, [], ◌∷◌, ◌++◌, Bool, false, true, if◌then◌else◌, ◌∙◌, ◌||◌, map, not, ℕ, ◌==◌, ◌&&◌}
 use Rattle.std.specs.List.{list_any}
 use Rattle.xrf_base.specs.declared.items.UnitId.{UnitId}

@@ -156,7 +156,7 @@ failed-stands s t x h cut w b = over (act_of s t x h w) (fail-restart s t x h cu
     over None restart working = tt
     over (Some a) restart working = (b.stands.0, fail-unread s t x h w b, restart, λ there. tt, λ none. tt, working)
 
--- the job of the other site: it is_active nothing where this one is_active
+-- the job of the other site: it writes nothing where this one writes
 abbrev pub OtherStands : Scen → List Entry → Site → Option (List Event) → Land → Act → Type 0
 OtherStands s t y job l a = IfSome (after_other a job) (SiteStands s t y (after s.settings.log a l (view s t)))
 

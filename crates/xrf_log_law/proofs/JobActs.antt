@@ -256,7 +256,7 @@ inside-after s t x h want.Item go = by (nat_lt (items_taken t x) (length (work s
     by false go = tt
 inside-after s t x h _ go = go
 
--- and a job that is_active none
+-- and a job that writes none
 abbrev pub StaysIdle : Scen → List Entry → Site → List Event → Act → Type 0
 StaysIdle s t x h a = is_active (handed s t x (now t) h a ∷ h) ≡ false → AfterIdle s t x h a
 

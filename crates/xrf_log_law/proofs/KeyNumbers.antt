@@ -1,4 +1,4 @@
--- The keypoints that stand in open slots are few.
+-- The numbers and starts of the keypoints in open KEY slots are small.
 use Rattle.std.proofs.Common.{IfSome, ℕ, None, Option, Some, arith, ◌+◌, Bool, false, refl, subst, sym, true, ◌≡◌, ◌==◌, List, length, ap, ◌≤◌, [], ◌∷◌, ◌∙◌}
 use Rattle.xrf_base.specs.declared.site.Site.{Site}
 use Rattle.xrf_gated.specs.declared.gated.Slot.{Slot}

@@ -1,4 +1,4 @@
--- The KEY slots.
+-- The KEY slots: what each write of one leaves.
 use Rattle.std.proofs.Common.{ℕ, arith, ◌≡◌, ◌+◌, ◌%◌, None, false, refl, Some, true, Bool, IfSome, List, Option, subst, sym, ◌==◌, [], ◌∷◌, ◌<◌, ◌∙◌, if◌then◌else◌, ap, length, suc, zero, ◌++◌, nat_lt}
 use Rattle.std.proofs.lemmas.List.{append-nil}
 use Rattle.std.proofs.lemmas.Grind.{common_steps}

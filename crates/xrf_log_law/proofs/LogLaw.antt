@@ -97,6 +97,7 @@ conditions-are-met s t scen is few =
     let all = each-entry s (EntryConditions s) (goes s) t (in_ranges s scen) is few in
     record {
       within = each-part (EntryConditions s) _ t (λ t e goes. goes.within) all;
+      torn = each-part (EntryConditions s) _ t (λ t e goes. goes.torn) all;
       written = each-part (EntryConditions s) _ t (λ t e goes. goes.written) all;
       reads = each-part (EntryConditions s) _ t (λ t e goes. goes.reads) all;
       scans = (always s t (in_ranges s scen) is few).scans;

@@ -1,4 +1,4 @@
--- What a job is_active is in its ranges: what its own history tells.
+-- What a job writes is in its ranges: what its own history tells.
 use Rattle.std.proofs.Common.{◌≡◌, ◌≤◌, false, true, Bool, refl, ◌||◌, List, arith, subst, sym, ℕ, ◌+◌, ◌∙◌, None, Option, Some, if◌then◌else◌, [], ◌∷◌, length, nat_lt, ◌==◌, IfSome}
 use Rattle.std.specs.List.{list_any}
 use Rattle.std.proofs.lemmas.Grind.{common_steps}

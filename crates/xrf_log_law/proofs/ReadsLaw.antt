@@ -1,4 +1,4 @@
--- What is promised of items, units and the file, at each act.
+-- A GET reads what its unit put last, and else the book.
 use Rattle.std.proofs.Common.{List, true, ◌≡◌, false, IfSome, Option, Some, subst, sym, Bool, ap, map, refl, ℕ, ◌∙◌}
 use Rattle.xrf_base.specs.declared.site.Site.{Site}
 use Rattle.xrf_base.specs.declared.items.Item.{Item}

@@ -1,4 +1,4 @@
--- What a job is_active is in its ranges: its records.
+-- What a job writes is in its ranges: its records.
 use Rattle.std.proofs.Common.{Bool, List, false, true, ◌≡◌, ℕ, Some, length, ◌≤◌, IfSome, Option, arith, subst, ◌∙◌, ap, [], ◌∷◌, refl, sym}
 use Rattle.xrf_base.specs.declared.items.UnitId.{UnitId}
 use Rattle.xrf_base.specs.declared.site.Site.{Site}
@@ -43,7 +43,7 @@ pub record HandRanged (file n : ℕ) (log : List LogRec) (restarted : Bool) (rec
   pub of : IsOf n log (unit_of rec) restarted
   pub file_of : IsOfFile file rec
 
--- a job that is_active, at work
+-- a job that writes, at work
 pub record Working (s : Scen) (t : List Entry) (x : Site) (h : List Event) : Type 0 where
   pub job : hist s t x ≡ Some h
   pub held : (1 ≤ number h) × (number h ≤ 65535)

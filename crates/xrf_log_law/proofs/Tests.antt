@@ -1,4 +1,4 @@
--- Small facts.
+-- Tests: small facts on Bools, numbers and choices.
 use Rattle.std.proofs.Common.{Bool, false, refl, true, ◌≡◌, arith, ℕ, ◌==◌, subst, sym, None, Option, Some, is_some, if◌then◌else◌, not, ◌&&◌, ◌||◌, List, [], ◌∷◌, nat_le, nat_lt, ◌<◌, ◌≤◌}
 use Rattle.std.proofs.lemmas.Grind.{common_steps}
 use Rattle.xrf_ctl.specs.declared.parts.OwnerState.{OwnerState}
@@ -74,7 +74,7 @@ sound-by h none = by (is_sound h) refl
     by true e = refl
     by false e = absurd (none-not_some (sign_off_due h) none (unsound-off h e))
 
--- from a false premise
+-- of what is never met anything follows
 pub false-true : {P : Type 0} → false ≡ true → P
 false-true e = absurd (cc)
 

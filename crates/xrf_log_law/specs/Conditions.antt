@@ -3,8 +3,8 @@ use Rattle.std.specs.Prelude.{IsTrue, List, is_some, ◌≡◌, ◌<◌, ◌%◌
 use Rattle.xrf_base.specs.Values.{SlotIs}
 use Rattle.xrf_base.specs.declared.site.Site.{Site}
 use Rattle.xrf_gated.specs.declared.gated.TheConstants.{OPEN}
-use Rattle.xrf_logrec.specs.Keypoints.{key_reading}
-use Rattle.xrf_logrec.specs.LogRecords.{log_reading}
+use Rattle.xrf_logrec.specs.Keypoints.{IsKeypoint, key_reading}
+use Rattle.xrf_logrec.specs.LogRecords.{IsLogRecord, log_reading}
 use Rattle.xrf_logrec.specs.declared.keypoints.Keypoint.{Keypoint}
 use Rattle.xrf_log.specs.Scan.{Scanned, keypoint_at}
 use Rattle.xrf_log.specs.Flight.{flight}
@@ -15,16 +15,18 @@ use Rattle.xrf_trace.specs.declared.entry.Entry.{Entry}
 use Rattle.xrf_trace.specs.Scenario.{Scen, settings}
 use Rattle.xrf_trace.specs.Devices.{key_slot, log_slot, image}
 use Rattle.xrf_trace.specs.Each.{Each}
+use Rattle.xrf_trace.proofs.ByKind.{LandFits}
 use Rattle.xrf_trace.specs.Jobs.{hist}
 use Rattle.xrf_trace.specs.declared.entry.Act.TheVariants as act
 
--- what is written over: CLOSE an open slot, BODY a closed one, OPEN a whole body
+-- What is written over: CLOSE an open slot, BODY a closed one, with a record or a keypoint within its ranges, OPEN a whole
+-- body.
 abbrev pub MayBeWritten : Scen → List Entry → Act → Type 0
 MayBeWritten s t (act.LogClose p) = (log_slot s t (p % s.settings.log)).gate ≡ OPEN
-MayBeWritten s t (act.LogBody p rec) = (log_slot s t (p % s.settings.log)).gate ≡ OPEN → ⊥
+MayBeWritten s t (act.LogBody p rec) = ((log_slot s t (p % s.settings.log)).gate ≡ OPEN → ⊥) × IsLogRecord rec
 MayBeWritten s t (act.LogOpen p rec) = IsTrue (is_some (log_reading (log_slot s t (p % s.settings.log)).body))
 MayBeWritten s t (act.KpClose k) = (k < 2) × ((key_slot t k).gate ≡ OPEN)
-MayBeWritten s t (act.KpBody k keypoint) = (k < 2) × ((key_slot t k).gate ≡ OPEN → ⊥)
+MayBeWritten s t (act.KpBody k keypoint) = (k < 2) × ((key_slot t k).gate ≡ OPEN → ⊥) × IsKeypoint keypoint
 MayBeWritten s t (act.KpOpen k keypoint) = (k < 2) × IsTrue (is_some (key_reading (key_slot t k).body))
 MayBeWritten s t _ = Unit {0}
 
@@ -74,6 +76,8 @@ IsWithin s _ = Unit {0}
 -- all of it
 pub record WorldConditions (s : Scen) (t : List Entry) : Type 0 where
   pub within : Each (λ t e. IsWithin s e.act) t
+  -- torn bytes that land, of any write, are as many as it has
+  pub torn : Each (λ t e. LandFits e.land e.act) t
   pub written : Each (λ t e. MayBeWritten s t e.act) t
   pub reads : Each (λ t e. ReadsSlot s t e.act) t
   pub scans : ScansFit s t

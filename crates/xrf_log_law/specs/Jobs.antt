@@ -1,4 +1,4 @@
--- The invariant of the law of the log, and what it assumes.
+-- What holds of a job and of the data sets together, by where the job stands.
 use Rattle.std.specs.Prelude.{Bool, false, true, ◌≡◌, IfSome, List, Option, ℕ, length, ◌≤◌}
 use Rattle.xrf_base.specs.declared.site.Site.{Site}
 use Rattle.xrf_logrec.specs.LogRecords.{IsLogRecord, spelling}
@@ -23,7 +23,7 @@ use Rattle.xrf_log_law.specs.Soundness.{is_sound}
 use Rattle.xrf_history.specs.declared.want.Want.TheVariants as want
 use Rattle.xrf_trace.specs.declared.entry.Act.TheVariants as act
 
--- an act that neither is_active nor reads the log, the keypoints or the file, and is no ITEM and no RESTARTED
+-- an act that neither writes nor reads the log, the keypoints or the file, and is no ITEM and no RESTARTED
 abbrev pub is_idle : Want → Bool
 is_idle (want.LogRead b) = false
 is_idle (want.LogLook place) = false
@@ -65,7 +65,7 @@ pub record Stands (s : Scen) (t : List Entry) : Type 0 where
   pub counted : key_number t ≤ length t
   pub jobs : (x : Site) → IfSome (hist s t x) (JobStands s.settings.log (first_value s) (view s t) (settings s x))
 
--- FROM THE RANGES: what is written to the log is in its ranges
+-- what is written to the log is in its ranges
 abbrev pub InRange : Act → Type 0
 InRange (act.LogBody p rec) = IsLogRecord rec
 InRange _ = Unit {0}

@@ -1,4 +1,4 @@
--- Records that are those of a log from its start on, as far as they go.
+-- Records that are those of a log from a start on, as far as they go.
 use Rattle.std.specs.Prelude.{List, length, ◌≡◌, ℕ, ◌+◌, ◌≤◌, ◌<◌, true}
 use Rattle.xrf_logrec.specs.declared.records.LogRec.{LogRec}
 use Rattle.xrf_log.specs.Scan.{Scanned}

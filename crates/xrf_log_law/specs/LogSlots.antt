@@ -1,4 +1,4 @@
--- What the law of the log reads of a trace.
+-- The slots of the log against its records.
 use Rattle.std.specs.Prelude.{true, List, None, Option, Some, length, ℕ, ◌==◌, [], ◌∷◌, if◌then◌else◌, false, ◌≡◌, ◌≤◌, ◌<◌, ◌%◌, ◌+◌}
 use Rattle.xrf_gated.specs.declared.gated.Slot.{Slot}
 use Rattle.xrf_gated.specs.Slots.{is_open}
@@ -38,7 +38,7 @@ pub record LogStands (size : ℕ) (v : LogView) : Type 0 where
   -- each open slot holds the last record of its residue
   pub last : (i : ℕ) → is_open (v.slot i) ≡ true → HoldsLast size v.log i (v.slot i)
 
--- what an act that is_active number n may rest on: it is the next, and it is_active over nothing that is needed
+-- what an act that writes number n may rest on: n is the next number, and nothing that is needed is written over
 pub record AtEnd (size n : ℕ) (v : LogView) : Type 0 where
   pub next : length v.log ≡ n
   pub start : v.start ≤ n

@@ -1,4 +1,4 @@
--- What the law rests on: the scenario, and what the law of the owner says of numbers.
+-- The ranges of a trace: the units, incarnations and record numbers of its log, and the values that were put.
 use Rattle.std.specs.Prelude.{IfSome, List, ◌≡◌, ℕ, ◌≤◌, false, true, Bool, ◌==◌, [], ◌∷◌, Option}
 use Rattle.std.specs.List.{list_any}
 use Rattle.xrf_base.specs.Values.{IsValue}

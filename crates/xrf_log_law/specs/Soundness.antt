@@ -1,4 +1,4 @@
--- More words of a history.
+-- Soundness: whether an act of an owner failed.
 use Rattle.std.specs.Prelude.{Bool, List, not, true, ◌&&◌, ◌||◌, [], ◌∷◌}
 use Rattle.xrf_history.specs.Events.{Event, ActFailed}
 use Rattle.xrf_history.specs.Reserving.{is_on_message}

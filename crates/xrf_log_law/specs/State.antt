@@ -1,4 +1,4 @@
--- What the law of the log reads of a trace, and what holds of it whatever stops.
+-- What the law reads of a trace, and what holds of the data sets after any stop.
 use Rattle.std.specs.Prelude.{ℕ, if◌then◌else◌, List, [], ◌∷◌, Option, false, ◌≡◌, Some, true, ◌<◌, IfSome, None, ◌+◌, ◌%◌, ◌==◌, length, ◌≤◌}
 use Rattle.std.specs.List.{list_any}
 use Rattle.xrf_base.specs.declared.items.UnitId.{UnitId}

@@ -1,3 +1,4 @@
+pub mod Alternates
 pub mod Backouts
 pub mod Draining
 pub mod Failures

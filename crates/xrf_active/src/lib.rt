@@ -8,6 +8,7 @@ mod items;
 mod keypoints;
 mod logging;
 mod messages;
+mod promoting;
 mod reserving;
 mod restart;
 mod rounds;

@@ -1,0 +1,6 @@
+use Rattle.std.proofs.Common.{sym}
+use Rattle.xrf_standby.proofs.Acts.{ends_none}
+use Rattle.xrf_standby.proofs.standby.Standby.take.Goals as goal
+
+pub returns-clause-answer : goal.returns-clause-answer
+returns-clause-answer c = λ h can. sym (ends_none c.args.self.now.settings h c.args.answer.now can.stands.was can.waits can.fitting)

@@ -26,7 +26,7 @@ use Rattle.xrf_history.specs.Working.{item_answer}
 use Rattle.xrf_job.specs.declared.stage.Stage.{Stage}
 use Rattle.xrf_job.specs.Stages.{inside_of}
 use Rattle.xrf_active.specs.Promoting.{IsOfAlternate, WasAlternate}
-use Rattle.xrf_active.proofs.Alternates.{quiet}
+use Rattle.xrf_active.proofs.Alternates.{not_restarted, no_notice}
 use Rattle.xrf_active.proofs.Taken.{gate-answer}
 use Rattle.xrf_standby.specs.declared.standby.Standby.{Standby}
 use Rattle.xrf_standby.specs.Standing.{Stands}
@@ -72,7 +72,7 @@ inside-step p h (Replied go at) is was act = act
 inside-step p h (Commanded command at) is was act = act
 inside-step p h (ControlRead held known) is was act = write-act (record_for p (ControlRead held known ∷ h))
 inside-step p h Released is was act = end-act (end_for p h)
-inside-step p h (MessageRead place slot) is was act = subst (λ (m : Option Message). is_act_of (after_message_read place slot m) ≡ true) (sym (none-at-hand p h (quiet h was).1)) refl
+inside-step p h (MessageRead place slot) is was act = subst (λ (m : Option Message). is_act_of (after_message_read place slot m) ≡ true) (sym (none-at-hand p h (not_restarted h was))) refl
 inside-step p h Abended is was act = absurd is
 inside-step p h (Exited said at) is was act = absurd is
 inside-step p h (MessageClosed place) is was act = absurd is
@@ -174,7 +174,7 @@ not_handed p h (answer.Anchored block keys) was alt is = no-anchors p h (next p 
 not_handed p h (answer.Gate gate) was alt is = no-gate p h (next p h) gate (next_act p h was alt)
 not_handed p h (answer.FileSlot slot) was alt is = no-record p h (next p h) slot (next_act p h was alt)
 not_handed p h (answer.Item item) was alt is = no-item p h (next p h) item (next_act p h was alt)
-not_handed p h (answer.Exit said at) was alt is = rw (quiet h was).6 (no-exit p h (next p h) said at)
+not_handed p h (answer.Exit said at) was alt is = rw (no_notice h was) (no-exit p h (next p h) said at)
 not_handed p h answer.Abend was alt is = rw alt (no-abend p h (next p h))
 not_handed p h _ was alt is = absurd (cc)
 

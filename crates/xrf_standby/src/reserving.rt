@@ -28,7 +28,7 @@ fn names_owner(control: &Control, inc: Inc) -> bool
 
 impl Standby {
     // what it reserves the control data set for
-    #[tactic(auto, using(xrf_active::proofs::Alternates::quiet))]
+    #[tactic(auto, using(xrf_active::proofs::Alternates::started_standby))]
     fn purpose_now(&self) -> Purpose
         ensures { (h : List Event) → Stands self.now h → is_owner h ≡ false → purpose_of result ≡ purpose_now h }
     {

@@ -155,7 +155,7 @@ impl Standby {
     }
 
     /// It was let through: it owns the data sets, and is to be promoted.
-    #[tactic(auto, using(xrf_active::proofs::Alternates::quiet))]
+    #[tactic(auto, using(xrf_active::proofs::Alternates::started_standby))]
     pub fn is_through(&self) -> bool
         ensures { (h : List Event) → Stands self.now h → result ≡ is_let_through h }
     {

@@ -5,14 +5,14 @@ use Rattle.xrf_log.specs.Scan.{Scanned, cleared}
 use Rattle.xrf_history.specs.Holding.{is_granted}
 use Rattle.xrf_history.specs.Restarting.{has_backout}
 use Rattle.xrf_history.proofs.Holding.{owner-granted}
-use Rattle.xrf_active.proofs.Alternates.{quiet, idle}
+use Rattle.xrf_active.proofs.Alternates.{tells_nothing, logs_nothing}
 use Rattle.xrf_active.proofs.active.Active.promoted.Goals as goal
 
 pub returns-clause-stands : goal.returns-clause-stands
 returns-clause-stands c = λ h s.
     let p = c.args.settings.now in
-    let q = quiet h s.was in
-    let i = idle p h s.was in
+    let q = tells_nothing h s.was in
+    let i = logs_nothing p h s.was in
     let granted : is_granted h ≡ true = owner-granted h s.owner in
     record {
       shared = s.shared;

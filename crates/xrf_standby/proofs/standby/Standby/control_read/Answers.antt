@@ -1,11 +1,11 @@
 use Rattle.std.proofs.Common.{sym, ap}
 use Rattle.xrf_history.specs.Notices.{number_or_none}
-use Rattle.xrf_active.proofs.Alternates.{quiet}
+use Rattle.xrf_active.proofs.Alternates.{no_epoch}
 use Rattle.xrf_standby.proofs.standby.Standby.control_read.Goals as goal
 
 pub returns-clause-stands : goal.returns-clause-stands
 returns-clause-stands c = λ h s alt. record {
-  shared = c.control_read.ensures h s.shared (sym (ap number_or_none (quiet h s.was).7));
+  shared = c.control_read.ensures h s.shared (sym (ap number_or_none (no_epoch h s.was)));
   rooms = s.rooms;
   terminals = s.terminals;
   unscanned = s.unscanned;

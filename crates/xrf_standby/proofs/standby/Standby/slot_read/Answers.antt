@@ -2,7 +2,7 @@ use Rattle.std.proofs.Common.{◌≡◌, ◌∙◌, sym, ap, true, false, Bool, 
 use Rattle.xrf_msg.specs.Numbers.{given}
 use Rattle.xrf_history.specs.Holding.{number}
 use Rattle.xrf_history.specs.Taking.{gives, expected}
-use Rattle.xrf_active.proofs.Alternates.{quiet}
+use Rattle.xrf_active.proofs.Alternates.{not_restarted}
 use Rattle.xrf_active.proofs.Draining.{table-read}
 use Rattle.xrf_standby.proofs.Acts.{reads-none, reads-some}
 use Rattle.xrf_standby.proofs.standby.Standby.slot_read.Goals as goal
@@ -11,7 +11,7 @@ pub returns-then-not-message_read-clause-stands : goal.returns-then-not-message_
 returns-then-not-message_read-clause-stands c = λ h place s alt.
     let p = c.args.self.now.settings in
     let slot = c.args.slot.now in
-    let running = (quiet h s.was).1 in
+    let running = not_restarted h s.was in
     let gave : is_some (given slot (number h) (expected h)) ≡ c.message_read.result = cc (s.shared.inc, s.shared.expected, c.message_read.ensures.gave) in
     let none : c.message_read.result ≡ false = cc in
     record {
@@ -36,7 +36,7 @@ pub returns-else-not-message_read-clause-stands : goal.returns-else-not-message_
 returns-else-not-message_read-clause-stands c = λ h place s alt.
     let p = c.args.self.now.settings in
     let slot = c.args.slot.now in
-    let running = (quiet h s.was).1 in
+    let running = not_restarted h s.was in
     let gave : is_some (given slot (number h) (expected h)) ≡ c.message_read.result = cc (s.shared.inc, s.shared.expected, c.message_read.ensures.gave) in
     let some : c.message_read.result ≡ true = cc in
     record {

@@ -244,6 +244,7 @@ is-within s t x h want.Nothing b fits = tt
 is-within s t x h (want.Exit told) b fits = tt
 is-within s t x h want.Item b fits = of-item s t x (IsWithin s) tt
 is-within s t x h (want.LogRead n) b fits = subst (λ (k : ℕ). 64 * k + 64 ≤ s.settings.log) (sym b.due.2) fits.block
+is-within s t x h (want.KpRead k) b fits = below-two k _ b.due.0
 is-within s t x h (want.FileRead k) b fits =
     read-within s.settings.file k (plan_of_job (settings s x) h) (rrn-of (settings s x) h)
     (subst (OfPlan (plan_of_job (settings s x) h)) b.is (next-of (settings s x) h))

@@ -62,6 +62,7 @@ quiet-reads s t _ quiet = tt
 -- nor does it touch a data set
 quiet-within : (s : Scen) (a : Act) → is_quiet a ≡ true → IsWithin s a
 quiet-within s (act.LogRead b) quiet = absurd (cc)
+quiet-within s (act.KpRead k) quiet = absurd (cc)
 quiet-within s (act.FileRead k) quiet = absurd (cc)
 quiet-within s (act.FileWrite unit k value) quiet = absurd (cc)
 quiet-within s (act.Undo k before) quiet = absurd (cc)

@@ -1,14 +1,14 @@
 -- The law of the log, from the invariant of every run.
-use Rattle.std.proofs.Common.{List, [], map, sym, ◌≡◌, ◌∙◌, ap, ℕ}
+use Rattle.std.proofs.Common.{List, [], arith, length, map, subst, sym, ◌≡◌, ◌∙◌, ap, ℕ}
 use Rattle.xrf_log.specs.Flight.{flight, open_puts}
 use Rattle.xrf_log.specs.declared.taken.Row.{Row}
 use Rattle.xrf_file.specs.declared.rows.LoggedPut.{LoggedPut}
 use Rattle.xrf_trace.specs.declared.entry.Entry.{Entry}
-use Rattle.xrf_trace.specs.Devices.{image}
+use Rattle.xrf_trace.specs.Devices.{image, key_slot}
 use Rattle.xrf_trace.specs.Each.{AtSite}
 use Rattle.xrf_trace.specs.FileIsBook.{RestartsAtBook, FileIsBook}
 use Rattle.xrf_trace.specs.UnitsAreItems.{AnswersMean, UnitsAreItems}
-use Rattle.xrf_trace.specs.Log.{log}
+use Rattle.xrf_trace.specs.Log.{log, start}
 use Rattle.xrf_trace.specs.Scenario.{Scen, first_value}
 use Rattle.xrf_trace.proofs.ByKind.{by_kind}
 use Rattle.xrf_trace.proofs.Steps.{Step}
@@ -19,7 +19,8 @@ use Rattle.xrf_owner_law.proofs.DecisionLaw.{items-wait}
 use Rattle.xrf_log_law.specs.DataSets.{DataSetsStand}
 use Rattle.xrf_log_law.specs.Agreement.{LedgersAgree}
 use Rattle.xrf_trace.specs.Laws.{AnswersAlike, JobsAnswerAlike}
-use Rattle.xrf_log_law.specs.State.{State, booked, view}
+use Rattle.xrf_log_law.specs.Jobs.{Stands}
+use Rattle.xrf_log_law.specs.State.{State, booked, key_number, view}
 use Rattle.xrf_log_law.specs.BeforeImages.{undo_at}
 use Rattle.xrf_log_law.proofs.InvariantLaw.{all-ended, always, each-entry, each-part}
 use Rattle.xrf_log_law.proofs.Counts.{log-count}
@@ -31,7 +32,8 @@ use Rattle.xrf_log_law.proofs.LedgerSteps.{no-rows}
 use Rattle.xrf_log_law.proofs.InvariantActs.{Kept, book-at}
 use Rattle.xrf_log_law.proofs.ConditionEntries.{EntryConditions, go-kinds}
 use Rattle.xrf_trace.specs.ItemsSeeBook.{ItemsSeeBook}
-use Rattle.xrf_log_law.specs.Conditions.{WorldConditions}
+use Rattle.xrf_log_law.specs.Conditions.{AnchorIsSmall, IsSmall, WorldConditions}
+use Rattle.xrf_log_law.proofs.KeyWrites.{anchor}
 
 -- at each RESTARTED the file is the book
 restarts : (s : Scen) (t : List Entry) (e : Entry) → Invariant s t → Step s t e → RestartsAtBook s t e
@@ -91,6 +93,12 @@ data-sets-stand s t scen is few =
 goes : (s : Scen) (t : List Entry) (e : Entry) → Invariant s t → Step s t e → EntryConditions s t e
 goes s t e k step = by_kind s t e (λ e. EntryConditions s t e) step (go-kinds s t k)
 
+-- the anchor is the keypoint in force
+anchor-small : (s : Scen) (t : List Entry) → Stands s t → AnchorIsSmall t
+anchor-small s t stands =
+    subst (IsSmall (length t)) (sym (anchor (key_number t) (start t) (key_slot t) stands.state.keys_whole stands.state.keys))
+    (stands.counted, omega (arith, stands.state.within, log-count t))
+
 -- so of each run
 pub conditions-are-met : OfRuns WorldConditions
 conditions-are-met s t scen is few =
@@ -102,6 +110,7 @@ conditions-are-met s t scen is few =
       reads = each-part (EntryConditions s) _ t (λ t e goes. goes.reads) all;
       scans = (always s t (in_ranges s scen) is few).scans;
       keys = (always s t (in_ranges s scen) is few).keys;
+      anchor = anchor-small s t (always s t (in_ranges s scen) is few).stands;
     }
 
 -- the trace answers as the jobs do

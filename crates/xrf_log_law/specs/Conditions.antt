@@ -6,14 +6,14 @@ use Rattle.xrf_gated.specs.declared.gated.TheConstants.{OPEN}
 use Rattle.xrf_logrec.specs.Keypoints.{IsKeypoint, key_reading}
 use Rattle.xrf_logrec.specs.LogRecords.{IsLogRecord, log_reading}
 use Rattle.xrf_logrec.specs.declared.keypoints.Keypoint.{Keypoint}
-use Rattle.xrf_log.specs.Scan.{Scanned, keypoint_at}
+use Rattle.xrf_log.specs.Scan.{Scanned, anchor_of, keypoint_at}
 use Rattle.xrf_log.specs.Flight.{flight}
 use Rattle.xrf_history.specs.Events.{Event}
 use Rattle.xrf_history.specs.Restarting.{scan}
 use Rattle.xrf_trace.specs.declared.entry.Act.{Act}
 use Rattle.xrf_trace.specs.declared.entry.Entry.{Entry}
 use Rattle.xrf_trace.specs.Scenario.{Scen, settings}
-use Rattle.xrf_trace.specs.Devices.{key_slot, log_slot, image}
+use Rattle.xrf_trace.specs.Devices.{key_slot, key_slots, log_slot, image}
 use Rattle.xrf_trace.specs.Each.{Each}
 use Rattle.xrf_trace.proofs.ByKind.{LandFits}
 use Rattle.xrf_trace.specs.Jobs.{hist}
@@ -61,13 +61,18 @@ IsSmall n keypoint = (keypoint.number ≤ n) × (keypoint.start ≤ n)
 abbrev pub KeysAreSmall : List Entry → Type 0
 KeysAreSmall t = (i : ℕ) → IfSome (keypoint_at (key_slot t i)) (IsSmall (length t))
 
--- an act is within its data set: the blocks of the log, and the records of the file
+-- so are those of the keypoint that a restart reads as its anchor
+abbrev pub AnchorIsSmall : List Entry → Type 0
+AnchorIsSmall t = IsSmall (length t) (anchor_of (key_slots t))
+
+-- an act is within its data set: the blocks of the log, the KEY slots, and the records of the file
 abbrev pub IsOfRecord : Scen → ℕ → Type 0
 IsOfRecord s k = (1 ≤ k) × (k ≤ s.settings.file)
 
 -- the act of an entry
 abbrev pub IsWithin : Scen → Act → Type 0
 IsWithin s (act.LogRead b) = 64 * b + 64 ≤ s.settings.log
+IsWithin s (act.KpRead k) = k < 2
 IsWithin s (act.FileRead k) = IsOfRecord s k
 IsWithin s (act.FileWrite unit k value) = IsOfRecord s k
 IsWithin s (act.Undo k before) = IsOfRecord s k
@@ -82,3 +87,4 @@ pub record WorldConditions (s : Scen) (t : List Entry) : Type 0 where
   pub reads : Each (λ t e. ReadsSlot s t e.act) t
   pub scans : ScansFit s t
   pub keys : KeysAreSmall t
+  pub anchor : AnchorIsSmall t

@@ -167,11 +167,9 @@ are_least s t is = over_histories s (λ x h. Least h)
     (record { starts = λ x e start. start-least e start; comes = λ t is x h e there comes given b. least-step s t is x h e there comes given b }) t is
 
 -- so what is sent is a message
-pub sends-whole : (s : Scen) → ItemsNamed s → (t : List Entry) → IsShort s t → (x : Site) (h : List Event) (k : ℕ) (m : Message) → hist s t x ≡ Some h
-    → next (settings s x) h ≡ want.MsgOpen k m → HasRanges m × HasNames m
-sends-whole s names t is x h k m there told =
-    let due = at-job s (λ y g. IsDue (settings s y) g) t x h (are_due s t is) there in
-    let sending : Sending (settings s x) h k m = subst (DueAt (settings s x) h) told due.due in
+pub sending-whole : (s : Scen) → ItemsNamed s → (t : List Entry) → IsShort s t → (x : Site) (h : List Event) (k : ℕ) (m : Message) → hist s t x ≡ Some h
+    → Sending (settings s x) h k m → HasRanges m × HasNames m
+sending-whole s names t is x h k m there sending =
     let is_due : IsDueOf h m = due-is (settings s x) h m sending.due in
     let last : (control t).last ≤ length t = last-few s t is in
     let few : epoch_of m ≤ (control t).last =
@@ -184,3 +182,9 @@ sends-whole s names t is x h k m there told =
     due-whole (settings s x) h m (epoch_of m) is_due.epoch_is (record { least = least; most = omega (arith, few, last, short) })
     (omega (arith, sent_is, long, short))
     (at-job s (λ y g. IsNamed (settings s y) g) t x h (are_named s names t is) there) sending.due
+
+-- also where its MSGOPEN is next
+pub sends-whole : (s : Scen) → ItemsNamed s → (t : List Entry) → IsShort s t → (x : Site) (h : List Event) (k : ℕ) (m : Message) → hist s t x ≡ Some h
+    → next (settings s x) h ≡ want.MsgOpen k m → HasRanges m × HasNames m
+sends-whole s names t is x h k m there told =
+    sending-whole s names t is x h k m there (subst (DueAt (settings s x) h) told (at-job s (λ y g. IsDue (settings s y) g) t x h (are_due s t is) there).due)

@@ -127,7 +127,7 @@ in-list t ring slots (want.MsgRead k) stand may = subst (λ (n : ℕ). k < n) (s
 in-list t ring slots (want.MsgClose k) stand may =
     (subst (λ (n : ℕ). k < n) (sym stand.many) may.0, subst (λ (slot : Slot). slot.gate ≡ OPEN) (sym (stand.each k may.0)) may.1)
 in-list t ring slots (want.MsgBody k m) stand may =
-    (subst (λ (n : ℕ). k < n) (sym stand.many) may.0, subst (λ (slot : Slot). slot.gate ≡ OPEN → ⊥) (sym (stand.each k may.0)) may.1)
+    (subst (λ (n : ℕ). k < n) (sym stand.many) may.0, subst (λ (slot : Slot). slot.gate ≡ OPEN → ⊥) (sym (stand.each k may.0)) may.1, may.2)
 in-list t ring slots (want.MsgOpen k m) stand may =
     (subst (λ (n : ℕ). k < n) (sym stand.many) may.0, subst (λ (slot : Slot). IsWhole slot.body) (sym (stand.each k may.0)) may.1)
 in-list t ring slots _ stand may = tt

@@ -27,7 +27,7 @@ use Rattle.xrf_message_law.specs.Writing.{IsReady, ReadyAt}
 use Rattle.xrf_message_law.specs.Names.{ItemsNamed}
 use Rattle.xrf_message_law.proofs.Due.{are_due}
 use Rattle.xrf_message_law.proofs.Writing.{are_ready}
-use Rattle.xrf_message_law.proofs.Bounds.{sends-whole}
+use Rattle.xrf_message_law.proofs.Bounds.{sending-whole}
 use Rattle.xrf_message_law.specs.LastOpened.{Holds}
 use Rattle.xrf_message_law.proofs.LastOpened.{are_sound}
 
@@ -65,9 +65,10 @@ may-land s names least t is x h there =
     by : (w : Want) → next (settings s x) h ≡ w → ReadyAt (message_slot t) w → DueAt (settings s x) h w → MayLand (message_slot t) s.settings.ring w
     by (want.MsgRead k) told ready due = reads-in (settings s x) h k (is_restarted h) least due
     by (want.MsgClose k) told ready due = (in-ring (number_of due.message) s.settings.ring k least due.sending.place, open-gate (message_slot t k) ready)
-    by (want.MsgBody k m) told ready due = (in-ring (number_of m) s.settings.ring k least due.place, closed-gate (message_slot t k) ready)
+    by (want.MsgBody k m) told ready due =
+        (in-ring (number_of m) s.settings.ring k least due.place, closed-gate (message_slot t k) ready, (sending-whole s names t is x h k m there due).0)
     by (want.MsgOpen k m) told ready due =
-        let names_it = sends-whole s names t is x h k m there told in (
+        let names_it = sending-whole s names t is x h k m there due in (
           in-ring (number_of m) s.settings.ring k least due.place,
           whole-spelled (message_slot t k).body m (record { ranges = names_it.0; names = names_it.1; spelled = ready.1 }),
         )

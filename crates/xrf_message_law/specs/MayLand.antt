@@ -4,7 +4,7 @@ use Rattle.std.specs.Prelude.{IsTrue, List, is_some, ℕ, ◌≡◌, ◌<◌, le
 use Rattle.xrf_gated.specs.declared.gated.TheConstants.{OPEN}
 use Rattle.xrf_gated.specs.declared.gated.Slot.{Slot}
 use Rattle.xrf_gated.specs.Slots.{OpenAreWhole, slot_of}
-use Rattle.xrf_msg.specs.Messages.{message_reading}
+use Rattle.xrf_msg.specs.Messages.{HasRanges, message_reading}
 use Rattle.xrf_history.specs.declared.want.Want.{Want}
 use Rattle.xrf_history.specs.Next.{next}
 use Rattle.xrf_history.specs.declared.want.Want.TheVariants as want
@@ -17,12 +17,13 @@ use Rattle.xrf_trace.specs.Devices.{message_slot}
 abbrev pub IsWhole : List ℕ → Type 0
 IsWhole body = IsTrue (is_some (message_reading body))
 
--- A CLOSE finds its slot open, whatever byte lands. A BODY finds it closed. An OPEN finds a whole body in it.
+-- A CLOSE finds its slot open, whatever byte lands. A BODY finds it closed, and its message is within its ranges. An OPEN
+-- finds a whole body in it.
 -- Each finds its slot among those of the ring, as a MSGREAD does.
 abbrev pub MayLand : (ℕ → Slot) → (ring : ℕ) → Want → Type 0
 MayLand slot ring (want.MsgRead k) = k < ring
 MayLand slot ring (want.MsgClose k) = (k < ring) × ((slot k).gate ≡ OPEN)
-MayLand slot ring (want.MsgBody k message) = (k < ring) × ((slot k).gate ≡ OPEN → ⊥)
+MayLand slot ring (want.MsgBody k message) = (k < ring) × ((slot k).gate ≡ OPEN → ⊥) × HasRanges message
 MayLand slot ring (want.MsgOpen k message) = (k < ring) × IsWhole (slot k).body
 MayLand slot ring _ = Unit {0}
 

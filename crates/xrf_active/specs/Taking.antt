@@ -6,6 +6,8 @@ use Rattle.xrf_history.specs.declared.answer.Answer.TheVariants as answer
 use Rattle.xrf_history.specs.Events.{Event}
 use Rattle.xrf_history.specs.Looking.{change}
 use Rattle.xrf_history.specs.Accepting.{may_take}
+use Rattle.xrf_job.specs.declared.stage.Stage.{Stage}
+use Rattle.xrf_job.specs.declared.stage.Stage.TheVariants as stages
 use Rattle.xrf_active.specs.declared.active.Active.{Active}
 use Rattle.xrf_active.specs.Standing.{Stands}
 
@@ -25,6 +27,19 @@ LeavesRoom _ = Unit {0}
 abbrev pub HasSmallKeys : Answer → Type 0
 HasSmallKeys (answer.Anchored block keys) = ((anchor_of keys).number < 16384) × ((anchor_of keys).start < 16384)
 HasSmallKeys _ = Unit {0}
+
+-- an answer that ends no item
+abbrev pub EndsNoItem : Answer → Type 0
+EndsNoItem (answer.Done at) = ⊥
+EndsNoItem (answer.FileSlot slot) = ⊥
+EndsNoItem (answer.Item item) = ⊥
+EndsNoItem _ = Unit {0}
+
+-- a stage whose act ends no item
+abbrev pub LeavesItemOpen : Stage → Type 0
+LeavesItemOpen (stages.LogOpen place rec) = ⊥
+LeavesItemOpen (stages.FileWrite unit rrn value) = ⊥
+LeavesItemOpen _ = Unit {0}
 
 pub record CanTake (job : Active) (h : List Event) (a : Answer) : Type 0 where
   pub stands : Stands job h

@@ -3,7 +3,7 @@
 ghost use Rattle.std.specs.Prelude.{◌≡◌, ℕ, ◌<◌, ◌≤◌, ◌∷◌, List, Option, None, true, false, length};
 ghost use Rattle.xrf_log.specs.Scan.{anchor_of};
 ghost use Rattle.xrf_history.specs.declared.answer.Answer.{Answer as An};
-ghost use Rattle.xrf_history.specs.Events.{Event, Looked1, Looked2, DecisionMade, MessageRead, FirstBlockRead, BlockRead, RecordRead, Given, ActFailed};
+ghost use Rattle.xrf_history.specs.Events.{Event, Looked1, Looked2, DecisionMade, MessageRead, FirstBlockRead, BlockRead, LogOpened, RecordRead, Given, ActFailed};
 ghost use Rattle.xrf_history.specs.Looking.{change};
 ghost use Rattle.xrf_history.specs.Deciding.{cause};
 ghost use Rattle.xrf_history.specs.Answers.{is_plain, may_fail, fits, made, place_of, gate_event, event};
@@ -12,7 +12,7 @@ ghost use Rattle.xrf_history.specs.Working.{item_answer};
 ghost use Rattle.xrf_history.specs.Next.{next};
 ghost use Rattle.xrf_job.specs.declared.stage.Stage.{Stage as At};
 ghost use Rattle.xrf_active.specs.Standing.{Stands};
-ghost use Rattle.xrf_active.specs.Taking.{CanTake};
+ghost use Rattle.xrf_active.specs.Taking.{CanTake, EndsNoItem, LeavesItemOpen};
 
 use crate::active::Active;
 use crate::due::Due;
@@ -21,6 +21,7 @@ use xrf_cavm::Known;
 use xrf_ctl::{Control, Signal};
 use xrf_history::Answer;
 use xrf_job::Stage;
+use xrf_logrec::LogRec;
 
 impl Active {
     /// Takes an answer, and gives that of the item that it ends.
@@ -30,59 +31,41 @@ impl Active {
         ensures answer { (h : List Event) → CanTake self.old h answer.now → result ≡ item_answer self.old.settings (event self.old.settings h answer.now ∷ h) }
     {
         match answer {
-            Answer::Tick(_) => {
-                self.ticked();
-                None
-            }
             Answer::Done(_) => self.done(),
-            Answer::Ctl(held, known) => {
-                self.control_read(held, *known);
-                None
-            }
-            Answer::Look1(held, signal) => {
-                self.look1_handed(held, signal);
-                None
-            }
-            Answer::Look2(signal, at) => {
-                self.look2_handed(signal, *at);
-                None
-            }
-            Answer::Decide(known, at) => {
-                self.decision_handed(*known, *at);
-                None
-            }
-            Answer::MsgSlot(slot) => {
-                self.slot_handed(slot);
-                None
-            }
-            Answer::LogBlock(block) => {
-                self.block_handed(block);
-                None
-            }
-            Answer::Anchored(block, keys) => {
-                self.first_block_handed(block, keys);
-                None
-            }
-            Answer::Gate(gate) => {
-                self.gate_handed(*gate);
-                None
-            }
             Answer::FileSlot(slot) => self.record_handed(slot),
             Answer::Item(item) => self.item_handed(item),
-            Answer::Exit(said, at) => {
-                self.exited(*said, *at);
+            _ => {
+                self.handed(answer);
                 None
             }
-            Answer::Abend => {
-                self.abended();
-                None
-            }
-            Answer::Failed(_) => {
-                self.act_failed();
-                None
-            }
-            Answer::Reply(..) => None,
-            Answer::Cebt(..) => None,
+        }
+    }
+
+    // an answer is handed that ends no item
+    fn handed(&mut self, answer: &Answer)
+        requires quiet { EndsNoItem answer.now }
+        requires can { (h : List Event) × CanTake self.old h answer.now }
+        ensures stands { (h : List Event) → CanTake self.old h answer.now → Stands self.new (event self.old.settings h answer.now ∷ h) }
+        ensures answer { (h : List Event) → CanTake self.old h answer.now → item_answer self.old.settings (event self.old.settings h answer.now ∷ h) ≡ None }
+    {
+        match answer {
+            Answer::Tick(_) => self.ticked(),
+            Answer::Ctl(held, known) => self.control_read(held, *known),
+            Answer::Look1(held, signal) => self.look1_handed(held, signal),
+            Answer::Look2(signal, at) => self.look2_handed(signal, *at),
+            Answer::Decide(known, at) => self.decision_handed(*known, *at),
+            Answer::MsgSlot(slot) => self.slot_handed(slot),
+            Answer::LogBlock(block) => self.block_handed(block),
+            Answer::Anchored(block, keys) => self.first_block_handed(block, keys),
+            Answer::Gate(gate) => self.gate_handed(*gate),
+            Answer::Exit(said, at) => self.exited(*said, *at),
+            Answer::Abend => self.abended(),
+            Answer::Failed(_) => self.act_failed(),
+            Answer::Done(_) => {}
+            Answer::FileSlot(_) => {}
+            Answer::Item(_) => {}
+            Answer::Reply(..) => {}
+            Answer::Cebt(..) => {}
         }
     }
 
@@ -99,84 +82,64 @@ impl Active {
         ensures answer { (h : List Event) → Stands self.old h → is_plain (next self.old.settings h) ≡ true → result ≡ item_answer self.old.settings (made (next self.old.settings h) ∷ h) }
     {
         match self.stage() {
-            Stage::Boundary => {
-                self.begun();
-                None
-            }
-            Stage::Reserve => {
-                self.reserved();
-                None
-            }
-            Stage::CtlWrite(written) => {
-                self.control_written(&written);
-                None
-            }
-            Stage::Release => {
-                self.released();
-                None
-            }
-            Stage::Ended(why) => {
-                self.ended(why);
-                None
-            }
-            Stage::Signal2(signal) => {
-                self.signalled2(&signal);
-                None
-            }
-            Stage::MsgClose(place, message) => {
-                self.message_closed(place, &message);
-                None
-            }
-            Stage::MsgBody(place, message) => {
-                self.message_bodied(place, &message);
-                None
-            }
-            Stage::MsgOpen(place, message) => {
-                self.message_opened(place, &message);
-                None
-            }
-            Stage::LogClose(place, rec) => {
-                self.log_closed(place, &rec);
-                None
-            }
-            Stage::LogBody(place, rec) => {
-                self.log_bodied(place, &rec);
-                None
-            }
-            Stage::LogOpen(place, rec) => {
-                if self.has_restarted {
-                    self.item_logged(place, &rec)
-                } else {
-                    self.backed_out(place, &rec);
-                    None
-                }
-            }
-            Stage::KpClose(place, keypoint) => {
-                self.key_closed(place, keypoint);
-                None
-            }
-            Stage::KpBody(place, keypoint) => {
-                self.key_bodied(place, keypoint);
-                None
-            }
-            Stage::KpOpen(place, keypoint) => {
-                self.key_opened(place, keypoint);
-                None
-            }
+            Stage::LogOpen(place, rec) => self.log_opened(place, &rec),
             Stage::FileWrite(unit, rrn, value) => {
                 self.record_written(unit, rrn, &value);
                 Some(ItemAnswer::Done)
             }
-            Stage::Undo(undo) => {
-                self.record_undone(&undo);
+            _ => {
+                self.made();
                 None
             }
-            Stage::CtlRead => None,
-            Stage::Look1 => None,
-            Stage::Look2 => None,
-            Stage::Decide => None,
-            Stage::LogLook(..) => None,
-            Stage::FileRead(_) => None,
+        }
+    }
+
+    // a log record is opened: of an item after RESTARTED, and of a Backout before it
+    fn log_opened(&mut self, place: u32, rec: &LogRec) -> Option<ItemAnswer>
+        requires stands { (h : List Event) × Stands self.old h × (length h < 16385) }
+        requires stage { self.old.common.stage ≡ At.LogOpen place rec.now }
+        ensures stands { (h : List Event) → Stands self.old h → Stands self.new (LogOpened place rec.now ∷ h) }
+        ensures answer { (h : List Event) → Stands self.old h → result ≡ item_answer self.old.settings (LogOpened place rec.now ∷ h) }
+    {
+        if self.has_restarted {
+            self.item_logged(place, rec)
+        } else {
+            self.backed_out(place, rec);
+            None
+        }
+    }
+
+    // an act is made that is answered by the tick alone and ends no item
+    fn made(&mut self)
+        requires stands { (h : List Event) × Stands self.old h × (length h < 16385) × (is_plain (next self.old.settings h) ≡ true) }
+        requires quiet { LeavesItemOpen self.old.common.stage }
+        ensures stands { (h : List Event) → Stands self.old h → is_plain (next self.old.settings h) ≡ true → Stands self.new (made (next self.old.settings h) ∷ h) }
+        ensures answer { (h : List Event) → Stands self.old h → is_plain (next self.old.settings h) ≡ true → item_answer self.old.settings (made (next self.old.settings h) ∷ h) ≡ None }
+    {
+        match self.stage() {
+            Stage::Boundary => self.begun(),
+            Stage::Reserve => self.reserved(),
+            Stage::CtlWrite(written) => self.control_written(&written),
+            Stage::Release => self.released(),
+            Stage::Ended(why) => self.ended(why),
+            Stage::Signal2(signal) => self.signalled2(&signal),
+            Stage::MsgClose(place, message) => self.message_closed(place, &message),
+            Stage::MsgBody(place, message) => self.message_bodied(place, &message),
+            Stage::MsgOpen(place, message) => self.message_opened(place, &message),
+            Stage::LogClose(place, rec) => self.log_closed(place, &rec),
+            Stage::LogBody(place, rec) => self.log_bodied(place, &rec),
+            Stage::KpClose(place, keypoint) => self.key_closed(place, keypoint),
+            Stage::KpBody(place, keypoint) => self.key_bodied(place, keypoint),
+            Stage::KpOpen(place, keypoint) => self.key_opened(place, keypoint),
+            Stage::Undo(undo) => self.record_undone(&undo),
+            Stage::CtlRead => {}
+            Stage::Look1 => {}
+            Stage::Look2 => {}
+            Stage::Decide => {}
+            Stage::LogLook(..) => {}
+            Stage::LogOpen(..) => {}
+            Stage::FileRead(_) => {}
+            Stage::FileWrite(..) => {}
         }
     }
 

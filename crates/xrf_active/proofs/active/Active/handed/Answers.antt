@@ -6,13 +6,13 @@ use Rattle.xrf_history.specs.Working.{item_answer}
 use Rattle.xrf_history.specs.Next.{next}
 use Rattle.xrf_active.specs.Taking.{HasSmallKeys}
 use Rattle.xrf_active.proofs.Taken.{taken, gate-answer}
-use Rattle.xrf_active.proofs.active.Active.take.Goals as goal
+use Rattle.xrf_active.proofs.active.Active.handed.Goals as goal
 
 pub first_block_handed-requires : goal.first_block_handed-requires
 first_block_handed-requires c =
     let p = c.args.self.now.settings in
-    let h = c.requires.0 in
-    let can = c.requires.1 in
+    let h = c.requires.can.0 in
+    let can = c.requires.can.1 in
     let fitting = subst (λ (a : Answer). may_take p h a ≡ true) c.in-Anchored.is can.fitting in
     let small = subst (λ (a : Answer). HasSmallKeys a) c.in-Anchored.is can.small_keys in
     (h, can.stands, can.few, fitting, small.0, small.1)
@@ -27,7 +27,7 @@ returns-in-Anchored-clause-stands c = λ h can.
 pub returns-in-Gate-clause-answer : goal.returns-in-Gate-clause-answer
 returns-in-Gate-clause-answer c = λ h can.
     let p = c.args.self.now.settings in
-    sym (subst (λ (a : Answer). item_answer p (event p h a ∷ h) ≡ None) (sym c.in-Gate.is) (gate-answer p h (next p h) _))
+    subst (λ (a : Answer). item_answer p (event p h a ∷ h) ≡ None) (sym c.in-Gate.is) (gate-answer p h (next p h) _)
 
 pub returns-in-Failed-clause-stands : goal.returns-in-Failed-clause-stands
 returns-in-Failed-clause-stands c = λ h can.

@@ -1,21 +1,19 @@
 -- An alternate has done no work of an owner.
-use Rattle.std.proofs.Common.{◌≡◌, ◌∙◌, ℕ, Bool, true, false, ◌&&◌, ◌||◌, List, [], ◌∷◌, Option, Some, None, refl, ap, sym, arith, is_some, length, drop}
-use Rattle.std.specs.Prelude.{if◌then◌else◌}
+use Rattle.std.proofs.Common.{◌≡◌, false, List, [], ◌∷◌, None, refl, arith}
 use Rattle.std.proofs.lemmas.Grind.{common_steps}
 use Rattle.xrf_base.specs.declared.items.UnitId.{UnitId}
 use Rattle.xrf_base.specs.declared.items.ItemAnswer.TheVariants.{Done}
 use Rattle.xrf_file.specs.declared.answers.Plan.TheVariants as plans
-use Rattle.xrf_log.specs.Scan.{Scanned, cleared}
-use Rattle.xrf_log.specs.Flight.{flight}
+use Rattle.xrf_log.specs.Scan.{cleared}
 use Rattle.xrf_cavm.specs.declared.decisions.Decided.TheVariants as decided
 use Rattle.xrf_history.specs.declared.settings.Settings.{Settings}
 use Rattle.xrf_history.specs.declared.want.Want.TheVariants as want
-use Rattle.xrf_history.specs.Events.{Event, StartedActive, StartedStandby, Ticked, Abended, Replied, Commanded, Exited, Reserved, ControlRead, ControlWritten, Released, DecisionMade, MessageRead, FirstBlockRead, BlockRead, LogOpened, KeyOpened, RecordUndone, Given, RestartDeclared, ActFailed}
-use Rattle.xrf_history.specs.Holding.{is_granted, is_owner, is_restarted, starts_active}
-use Rattle.xrf_history.specs.Taking.{is_drained, gives}
-use Rattle.xrf_history.specs.Reserving.{purpose, purpose_now, sign_off_due, drop_due, leaves, start_due, record_read}
+use Rattle.xrf_history.specs.Events.{Event, StartedActive, StartedStandby, Abended, Exited, Reserved, Released, DecisionMade, MessageRead, FirstBlockRead, BlockRead, LogOpened, KeyOpened, RecordUndone, Given, RestartDeclared, ActFailed}
+use Rattle.xrf_history.specs.Holding.{is_owner, is_restarted, starts_active}
+use Rattle.xrf_history.specs.Taking.{is_drained}
+use Rattle.xrf_history.specs.Reserving.{purpose, purpose_now, sign_off_due, drop_due}
 use Rattle.xrf_history.specs.Notices.{is_drop, notice, epoch}
-use Rattle.xrf_history.specs.Restarting.{scan, undone, has_backout, backouts_left, records_opened, last_keypoint}
+use Rattle.xrf_history.specs.Restarting.{scan, undone, has_backout, records_opened, last_keypoint}
 use Rattle.xrf_history.specs.Working.{last_plan, undone_of_item}
 use Rattle.xrf_active.specs.Promoting.{IsOfAlternate, WasAlternate}
 use Rattle.xrf_active.specs.Standing.{AreSmall}

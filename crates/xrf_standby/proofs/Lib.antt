@@ -1,2 +1,4 @@
 pub mod Acts
+pub mod Answering
+pub mod Reading
 pub mod Starting

@@ -1,10 +1,10 @@
 //! What an alternate does next at a boundary.
 
-ghost use Rattle.std.specs.Prelude.{◌≡◌, ◌<◌, List, Some, None, true, false};
+ghost use Rattle.std.specs.Prelude.{◌≡◌, ◌<◌, List, Some, None, false};
 ghost use Rattle.xrf_history.specs.Events.{Event};
 ghost use Rattle.xrf_history.specs.Holding.{is_owner, is_waiting};
 ghost use Rattle.xrf_history.specs.Reserving.{start_in, is_through_decision, start_due};
-ghost use Rattle.xrf_history.specs.Rows.{alternate_row, alternate_starts, alternate_tracks, boundary, lines_left};
+ghost use Rattle.xrf_history.specs.Rows.{alternate_starts, alternate_tracks, boundary};
 ghost use Rattle.xrf_standby.specs.Dues.{act_of, Begins};
 ghost use Rattle.xrf_standby.specs.Standing.{Stands};
 

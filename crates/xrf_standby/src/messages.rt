@@ -1,6 +1,6 @@
 //! The messages that an alternate reads.
 
-ghost use Rattle.std.specs.Prelude.{◌≡◌, ℕ, ◌<◌, ◌∷◌, List, Some, true, false, length};
+ghost use Rattle.std.specs.Prelude.{◌≡◌, ℕ, ◌<◌, ◌∷◌, List, Some, false, length};
 ghost use Rattle.xrf_history.specs.declared.want.Want.{Want as Act};
 ghost use Rattle.xrf_history.specs.Events.{Event, MessageRead, ActFailed};
 ghost use Rattle.xrf_history.specs.Holding.{is_owner};

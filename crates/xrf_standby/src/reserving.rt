@@ -1,6 +1,6 @@
 //! What an alternate does under the reserve.
 
-ghost use Rattle.std.specs.Prelude.{◌≡◌, ◌||◌, ◌<◌, ◌∷◌, List, Some, None, true, false};
+ghost use Rattle.std.specs.Prelude.{◌≡◌, ◌||◌, ◌<◌, ◌∷◌, List, Some, None, false};
 ghost use Rattle.xrf_cavm.specs.Record.{is_owner as names_owner};
 ghost use Rattle.xrf_history.specs.Events.{Event, Reserved, ControlRead, ControlWritten, Released, EndedAs};
 ghost use Rattle.xrf_history.specs.Holding.{number, is_owner};

@@ -1,11 +1,11 @@
 //! The rounds of an alternate, and what it decides.
 
-ghost use Rattle.std.specs.Prelude.{◌≡◌, ℕ, ◌+◌, ◌<◌, ◌≤◌, ◌∷◌, List, Some, None, true, false, length};
+ghost use Rattle.std.specs.Prelude.{◌≡◌, ◌+◌, ◌<◌, ◌≤◌, ◌∷◌, List, Some, None, true, false, length};
 ghost use Rattle.xrf_cavm.specs.Watch.{is_lost};
 ghost use Rattle.xrf_history.specs.Events.{Event, Signalled1, Signalled2, Looked1, Looked2, DecisionMade};
 ghost use Rattle.xrf_history.specs.Holding.{is_granted, is_owner};
 ghost use Rattle.xrf_history.specs.Looking.{change};
-ghost use Rattle.xrf_history.specs.Reserving.{end_by, end_in, is_start};
+ghost use Rattle.xrf_history.specs.Reserving.{end_in, is_start};
 ghost use Rattle.xrf_history.specs.Deciding.{is_ask, cause};
 ghost use Rattle.xrf_history.specs.Rows.{rounds, signal_of, lets_read};
 ghost use Rattle.xrf_active.specs.Promoting.{IsNoOwners};

@@ -1,11 +1,11 @@
 //! How an alternate takes what its acts, ticks and choices give.
 
-ghost use Rattle.std.specs.Prelude.{◌≡◌, ℕ, ◌<◌, ◌≤◌, ◌∷◌, List, true, false, length};
+ghost use Rattle.std.specs.Prelude.{◌≡◌, ◌<◌, ◌≤◌, ◌∷◌, List, true, false, length};
 ghost use Rattle.xrf_history.specs.declared.answer.Answer.{Answer as An};
-ghost use Rattle.xrf_history.specs.Events.{Event, Looked1, Looked2, ActFailed};
+ghost use Rattle.xrf_history.specs.Events.{Event, Looked1, Looked2};
 ghost use Rattle.xrf_history.specs.Holding.{is_owner};
 ghost use Rattle.xrf_history.specs.Looking.{change};
-ghost use Rattle.xrf_history.specs.Answers.{is_plain, may_fail, fits, made, event};
+ghost use Rattle.xrf_history.specs.Answers.{is_plain, fits, made, event};
 ghost use Rattle.xrf_history.specs.Working.{item_answer};
 ghost use Rattle.xrf_history.specs.Next.{next};
 ghost use Rattle.xrf_job.specs.declared.stage.Stage.{Stage as At};

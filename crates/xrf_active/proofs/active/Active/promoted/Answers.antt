@@ -1,9 +1,6 @@
-use Rattle.std.proofs.Common.{◌≡◌, ◌∙◌, ℕ, ◌&&◌, not, sym, ap, subst, refl, true, Bool, drop, filter, List}
-use Rattle.xrf_base.specs.declared.items.UnitId.{UnitId}
-use Rattle.xrf_log.specs.Flight.{flight}
-use Rattle.xrf_log.specs.Scan.{Scanned, cleared}
+use Rattle.std.proofs.Common.{◌≡◌, ◌∙◌, sym, ap, refl, true}
+use Rattle.xrf_log.specs.Scan.{Scanned}
 use Rattle.xrf_history.specs.Holding.{is_granted}
-use Rattle.xrf_history.specs.Restarting.{has_backout}
 use Rattle.xrf_history.proofs.Holding.{owner-granted}
 use Rattle.xrf_active.proofs.Alternates.{tells_nothing, logs_nothing}
 use Rattle.xrf_active.proofs.active.Active.promoted.Goals as goal

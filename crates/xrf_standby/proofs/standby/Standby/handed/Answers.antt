@@ -3,7 +3,8 @@ use Rattle.xrf_history.specs.declared.answer.Answer.{Answer}
 use Rattle.xrf_history.specs.Accepting.{may_take}
 use Rattle.xrf_history.specs.Answers.{place_of}
 use Rattle.xrf_history.specs.Next.{next}
-use Rattle.xrf_standby.proofs.Acts.{failed-act, fails_reading, next_act, refused, taken}
+use Rattle.xrf_standby.proofs.Acts.{next_act}
+use Rattle.xrf_standby.proofs.Answering.{failed-act, fails_reading, refused, taken}
 use Rattle.xrf_standby.proofs.standby.Standby.handed.Goals as goal
 
 pub returns-in-MsgSlot-clause-stands : goal.returns-in-MsgSlot-clause-stands

@@ -1,10 +1,10 @@
-use Rattle.std.proofs.Common.{◌≡◌, ◌∙◌, sym, ap, true, false, Bool, ◌&&◌, is_some}
+use Rattle.std.proofs.Common.{◌≡◌, ◌∙◌, sym, true, false, is_some}
 use Rattle.xrf_msg.specs.Numbers.{given}
 use Rattle.xrf_history.specs.Holding.{number}
-use Rattle.xrf_history.specs.Taking.{gives, expected}
+use Rattle.xrf_history.specs.Taking.{expected}
 use Rattle.xrf_active.proofs.Alternates.{not_restarted}
 use Rattle.xrf_active.proofs.Draining.{table-read}
-use Rattle.xrf_standby.proofs.Acts.{reads-none, reads-some}
+use Rattle.xrf_standby.proofs.Reading.{reads-none, reads-some}
 use Rattle.xrf_standby.proofs.standby.Standby.slot_read.Goals as goal
 
 pub returns-then-not-message_read-clause-stands : goal.returns-then-not-message_read-clause-stands

@@ -1,5 +1,5 @@
 use Rattle.std.proofs.Common.{sym}
-use Rattle.xrf_standby.proofs.Acts.{ends_none}
+use Rattle.xrf_standby.proofs.Answering.{ends_none}
 use Rattle.xrf_standby.proofs.standby.Standby.take.Goals as goal
 
 pub returns-clause-answer : goal.returns-clause-answer

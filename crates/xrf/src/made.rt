@@ -32,7 +32,7 @@ pub enum Made {
 fn plain(alloc: Global, numbered: &[Numbered]) -> Result<Vec<Choice>, AllocError>
     ensures { IfOk result (λ choices. choices.items ≡ plain numbered.now) }
 {
-    let mut choices = Vec::new(alloc);
+    let mut choices = Vec::with_capacity(alloc, numbered.len())?;
     for one in numbered {
         choices.push(one.choice)?;
     }

@@ -1,13 +1,17 @@
 -- The forms of a table that begin with a word are among those of the table.
 use Rattle.std.proofs.Common.{◌≡◌, ◌⊎◌, inl, inr, ℕ, List, [], ◌∷◌, Option, Some, None, Bool, true, false, if◌then◌else◌, refl}
+use Rattle.std.specs.Prelude.{codes}
 use Rattle.std.specs.Str.{bytes_eq}
 use Rattle.xrf_grammar.specs.declared.form.Form.{Form}
+use Rattle.xrf_grammar.specs.declared.form.Form.TheVariants as form
+use Rattle.xrf_setup.specs.declared.format.Format.{Format}
+use Rattle.xrf_setup.specs.declared.format.Format.TheVariants.{One, Two}
 use Rattle.xrf_grammar.specs.declared.form.Part.{Part}
 use Rattle.xrf_grammar.specs.declared.keyword.Keyword.{Keyword as Word}
 use Rattle.xrf_grammar.specs.Keywords.{keyword_text}
 use Rattle.xrf_grammar.specs.Fitting.{keyword_of}
 use Rattle.xrf_grammar.specs.Grammar.{IsAmong, AreAmong}
-use Rattle.xrf_grammar.specs.Table.{parts_of}
+use Rattle.xrf_grammar.specs.Table.{parts_of, settings_of}
 
 abbrev pub begins_by : Option Word → List ℕ → Bool
 begins_by None word = false
@@ -31,3 +35,12 @@ begun-among word (first ∷ forms) form among = by (begins (parts_of first) word
     by true rest (inl same) = inl same
     by true rest (inr later) = inr (rest later)
     by false rest later = inr (rest later)
+
+-- The forms of a record and of the command list are among those of each format.
+pub record-among : (format : Format) → AreAmong (form.Record ∷ []) (settings_of format)
+record-among One = begun-among (codes "RECORD") (settings_of One)
+record-among Two = begun-among (codes "RECORD") (settings_of Two)
+
+pub clt-among : (format : Format) → AreAmong (form.CltCancel ∷ form.CltCommand ∷ form.CltWto ∷ []) (settings_of format)
+clt-among One = begun-among (codes "CLT") (settings_of One)
+clt-among Two = begun-among (codes "CLT") (settings_of Two)

@@ -14,3 +14,4 @@ pub mod LineAgain
 pub mod FaultLaws
 pub mod BeginningLaws
 pub mod SpelledLaws
+pub mod FrontLaws

@@ -1,5 +1,5 @@
 -- Numbers in texts.
-use Rattle.std.proofs.Common.{◌≡◌, ◌≤◌, ◌<◌, ◌+◌, ◌*◌, ◌^◌, ◌==◌, ◌||◌, not, ℕ, zero, suc, Bool, true, false, Some, List, length, refl, sym, ◌∙◌, ap, arith, rules, slice_index, get_or, add-one}
+use Rattle.std.proofs.Common.{◌≡◌, ◌≤◌, ◌<◌, ◌+◌, ◌*◌, ◌/◌, ◌%◌, [], ◌∷◌, ◌++◌, ◌^◌, ◌==◌, ◌||◌, not, ℕ, zero, suc, Bool, true, false, Some, List, length, refl, sym, ◌∙◌, ap, arith, rules, slice_index, get_or, add-one}
 use Rattle.std.proofs.lemmas.Option.{cond_some}
 use Rattle.std.proofs.lemmas.Bool.{eqb-true, eq-eqb, le-leb, leb-true, and_parts}
 use Rattle.std.specs.Cmp.Derive.{both_true}
@@ -9,7 +9,8 @@ use Rattle.std.specs.Char.{is_ascii_digit}
 use Rattle.std.specs.List.{list_all}
 use Rattle.std.specs.Fmt.{decimal}
 use Rattle.std.proofs.lemmas.Str.Parse.{IsNumeralModel, numerals_by_fold, digit_at}
-use Rattle.std.proofs.lemmas.Fmt.{decimal-digits_value, digits_decimal, digits_value-decimal, length-decimal-le, decimal_nonempty, first_decimal, decimal_digit}
+use Rattle.std.proofs.lemmas.Fmt.{decimal-digits_value, digits_decimal, digits_value-decimal, length-decimal-le, decimal_nonempty, first_decimal, decimal_digit, decimal_step}
+use Rattle.std.proofs.lemmas.List.{append_assoc}
 use Rattle.xrf_grammar.specs.Numbers.{is_number, number_of, value_behind}
 
 -- digits and their value
@@ -89,3 +90,11 @@ number-of-decimal n fits =
       fits = omega (arith, value, fits);
     } in
     rw (whole, value) refl
+
+-- what is written of a number below 10, and of its last digit behind the others
+pub one_digit : (out new : List ℕ) (n : ℕ) → n < 10 → new ≡ out ++ (48 + n) ∷ [] → new ≡ out ++ decimal n
+one_digit out new n low e = rw (decimal_digit n low) e
+
+pub last_digit : (out front new : List ℕ) (n : ℕ) → 10 ≤ n → n < 2 ^ 64 → front ≡ out ++ decimal (n / 10) → new ≡ front ++ (48 + n % 10) ∷ [] → new ≡ out ++ decimal n
+last_digit out front new n high small e f =
+    f ∙ ap (λ (l : List ℕ). l ++ (48 + n % 10) ∷ []) e ∙ append_assoc out (decimal (n / 10)) ((48 + n % 10) ∷ []) ∙ ap (λ (l : List ℕ). out ++ l) (sym (decimal_step n high small))

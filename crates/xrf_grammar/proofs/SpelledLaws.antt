@@ -39,14 +39,18 @@ spelled_later form more ws (Some says) s = record { form = s.form; among = inr s
 by-table : (forms all : List Form) (ws : List (List ℕ)) (says : Line) → AreAmong forms all → Spells forms ws says → Spells all ws says
 by-table forms all ws says among s = record { form = s.form; among = among s.form s.among; fit = s.fit; line = s.line }
 
--- a line before the choices
-pub setting_read : (format : Format) (forms : List Form) (ws : List (List ℕ)) (r : Option Line) → AreAmong forms (settings_of format) → IfSome r (λ says. Spells forms ws says)
+-- a line before the choices, of which these are the words
+pub setting_read : (format : Format) (forms : List Form) (ws held : List (List ℕ)) (r : Option Line) → AreAmong forms (settings_of format) → held ≡ ws → IfSome r (λ says. Spells forms held says)
     → IfSome r (λ says. Ok says ≡ line_of (settings_of format) ws)
-setting_read format forms ws None among s = tt
-setting_read format forms ws (Some says) among s = sym (line-again (settings_of format) ws says (settings-apart format) (by-table forms (settings_of format) ws says among s))
+setting_read format forms ws held None among same s = tt
+setting_read format forms ws held (Some says) among same s =
+    let of : Spells forms ws says = subst (λ (l : List (List ℕ)). Spells forms l says) same s in
+    sym (line-again (settings_of format) ws says (settings-apart format) (by-table forms (settings_of format) ws says among of))
 
--- a line behind CHOICES
-pub choice_read : (forms : List Form) (ws : List (List ℕ)) (r : Option Line) → AreAmong forms choices_table → IfSome r (λ says. Spells forms ws says)
+-- a line behind CHOICES, of which these are the words
+pub choice_read : (forms : List Form) (ws held : List (List ℕ)) (r : Option Line) → AreAmong forms choices_table → held ≡ ws → IfSome r (λ says. Spells forms held says)
     → IfSome r (λ says. Ok says ≡ line_of choices_table ws)
-choice_read forms ws None among s = tt
-choice_read forms ws (Some says) among s = sym (line-again choices_table ws says choices-apart (by-table forms choices_table ws says among s))
+choice_read forms ws held None among same s = tt
+choice_read forms ws held (Some says) among same s =
+    let of : Spells forms ws says = subst (λ (l : List (List ℕ)). Spells forms l says) same s in
+    sym (line-again choices_table ws says choices-apart (by-table forms choices_table ws says among of))

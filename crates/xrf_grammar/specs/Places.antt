@@ -24,3 +24,7 @@ fifth ws = fourth (behind ws)
 
 abbrev pub sixth : List (List ℕ) → List ℕ
 sixth ws = fifth (behind ws)
+
+-- the first six words, with empty texts in the places of those that are missing
+abbrev pub front : List (List ℕ) → List (List ℕ)
+front ws = first ws ∷ second ws ∷ third ws ∷ fourth ws ∷ fifth ws ∷ sixth ws ∷ []

@@ -101,65 +101,46 @@ fn commands(word: &[u8]) -> &'static [Form]
     &[]
 }
 
+/// The forms of a line of work, with those of users where there are any.
+macro_rules! work {
+    ($($user:ident)*) => {
+        &[
+            Form::Work(ItemForm::Begin),
+            Form::Work(ItemForm::Put),
+            Form::Work(ItemForm::Get),
+            Form::Work(ItemForm::Commit),
+            Form::Work(ItemForm::Roll),
+            Form::Work(ItemForm::Logon),
+            Form::Work(ItemForm::Logoff),
+            $(Form::Work(ItemForm::$user),)*
+            Form::Work(ItemForm::Shutdown),
+            Form::Work(ItemForm::ShutdownTakeover),
+        ]
+    };
+}
+
+fn work_beginning(format: Format) -> &'static [Form]
+    ensures { AreAmong result.now (settings_of format) }
+{
+    match format {
+        Format::One => work!(),
+        Format::Two => work!(Signon Signoff),
+    }
+}
+
 /// The forms between the header and the line CHOICES that begin with a word; each is one of them.
 /// Where the word stands at the head of a single form, these are all forms.
 pub(crate) fn settings_beginning(format: Format, word: &[u8]) -> &'static [Form]
     ensures { AreAmong result.now (settings_of format) }
 {
-    match format {
-        Format::One => settings_of_one(word),
-        Format::Two => settings_of_two(word),
-    }
-}
-
-fn settings_of_one(word: &[u8]) -> &'static [Form]
-    ensures { AreAmong result.now (settings_of Format.One) }
-{
     if word == b"RECORD".as_slice() {
         return &[Form::Record];
     }
     if word == b"WORK".as_slice() {
-        return &[
-            Form::Work(ItemForm::Begin),
-            Form::Work(ItemForm::Put),
-            Form::Work(ItemForm::Get),
-            Form::Work(ItemForm::Commit),
-            Form::Work(ItemForm::Roll),
-            Form::Work(ItemForm::Logon),
-            Form::Work(ItemForm::Logoff),
-            Form::Work(ItemForm::Shutdown),
-            Form::Work(ItemForm::ShutdownTakeover),
-        ];
+        return work_beginning(format);
     }
     if word == b"CLT".as_slice() {
         return &[Form::CltCancel, Form::CltCommand, Form::CltWto];
     }
-    settings(Format::One)
-}
-
-fn settings_of_two(word: &[u8]) -> &'static [Form]
-    ensures { AreAmong result.now (settings_of Format.Two) }
-{
-    if word == b"RECORD".as_slice() {
-        return &[Form::Record];
-    }
-    if word == b"WORK".as_slice() {
-        return &[
-            Form::Work(ItemForm::Begin),
-            Form::Work(ItemForm::Put),
-            Form::Work(ItemForm::Get),
-            Form::Work(ItemForm::Commit),
-            Form::Work(ItemForm::Roll),
-            Form::Work(ItemForm::Logon),
-            Form::Work(ItemForm::Logoff),
-            Form::Work(ItemForm::Signon),
-            Form::Work(ItemForm::Signoff),
-            Form::Work(ItemForm::Shutdown),
-            Form::Work(ItemForm::ShutdownTakeover),
-        ];
-    }
-    if word == b"CLT".as_slice() {
-        return &[Form::CltCancel, Form::CltCommand, Form::CltWto];
-    }
-    settings(Format::Two)
+    settings(format)
 }

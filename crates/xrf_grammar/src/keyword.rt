@@ -72,75 +72,34 @@ pub enum Keyword {
     Drop,
 }
 
+/// The text of a keyword, by the spelling of each.
+macro_rules! spelled_by {
+    ($keyword:expr; $($name:ident $text:literal,)*) => {
+        match $keyword {
+            $(Keyword::$name => $text,)*
+        }
+    };
+}
+
 impl Keyword {
     /// How it is spelled.
     pub fn text(self) -> &'static [u8]
         ensures { result.now ≡ keyword_text self }
     {
-        match self {
-            Keyword::Applid => b"APPLID",
-            Keyword::Takeovr => b"TAKEOVR",
-            Keyword::Auto => b"AUTO",
-            Keyword::Manual => b"MANUAL",
-            Keyword::Command => b"COMMAND",
-            Keyword::Adi => b"ADI",
-            Keyword::Pdi => b"PDI",
-            Keyword::Log => b"LOG",
-            Keyword::Ring => b"RING",
-            Keyword::File => b"FILE",
-            Keyword::Pace => b"PACE",
-            Keyword::Ticks => b"TICKS",
-            Keyword::Images => b"IMAGES",
-            Keyword::On => b"ON",
-            Keyword::Off => b"OFF",
-            Keyword::Level => b"LEVEL",
-            Keyword::Xrfsoff => b"XRFSOFF",
-            Keyword::Force => b"FORCE",
-            Keyword::Noforce => b"NOFORCE",
-            Keyword::Record => b"RECORD",
-            Keyword::Clt => b"CLT",
-            Keyword::Cancel => b"CANCEL",
-            Keyword::Wto => b"WTO",
-            Keyword::Work => b"WORK",
-            Keyword::Begin => b"BEGIN",
-            Keyword::Put => b"PUT",
-            Keyword::Get => b"GET",
-            Keyword::Commit => b"COMMIT",
-            Keyword::Roll => b"ROLL",
-            Keyword::Logon => b"LOGON",
-            Keyword::Logoff => b"LOGOFF",
-            Keyword::Signon => b"SIGNON",
-            Keyword::Signoff => b"SIGNOFF",
-            Keyword::Cemt => b"CEMT",
-            Keyword::Shutdown => b"SHUTDOWN",
-            Keyword::Takeover => b"TAKEOVER",
-            Keyword::Plan => b"PLAN",
-            Keyword::Choices => b"CHOICES",
-            Keyword::End => b"END",
-            Keyword::Tick => b"TICK",
-            Keyword::Step => b"STEP",
-            Keyword::Lose => b"LOSE",
-            Keyword::Stop => b"STOP",
-            Keyword::NoneWord => b"NONE",
-            Keyword::All => b"ALL",
-            Keyword::Torn => b"TORN",
-            Keyword::Fail => b"FAIL",
-            Keyword::Start => b"START",
-            Keyword::Active => b"ACTIVE",
-            Keyword::Standby => b"STANDBY",
-            Keyword::Abend => b"ABEND",
-            Keyword::Confirm => b"CONFIRM",
-            Keyword::Reply => b"REPLY",
-            Keyword::Go => b"GO",
-            Keyword::Ignore => b"IGNORE",
-            Keyword::Cebt => b"CEBT",
-            Keyword::Perform => b"PERFORM",
-            Keyword::Inquire => b"INQUIRE",
-            Keyword::Set => b"SET",
-            Keyword::Surveillance => b"SURVEILLANCE",
-            Keyword::Exit => b"EXIT",
-            Keyword::Keep => b"KEEP",
-            Keyword::Drop => b"DROP",
+        spelled_by! { self;
+            Applid b"APPLID", Takeovr b"TAKEOVR", Auto b"AUTO", Manual b"MANUAL",
+            Command b"COMMAND", Adi b"ADI", Pdi b"PDI", Log b"LOG", Ring b"RING", File b"FILE",
+            Pace b"PACE", Ticks b"TICKS", Images b"IMAGES", On b"ON", Off b"OFF", Level b"LEVEL",
+            Xrfsoff b"XRFSOFF", Force b"FORCE", Noforce b"NOFORCE", Record b"RECORD", Clt b"CLT",
+            Cancel b"CANCEL", Wto b"WTO", Work b"WORK", Begin b"BEGIN", Put b"PUT", Get b"GET",
+            Commit b"COMMIT", Roll b"ROLL", Logon b"LOGON", Logoff b"LOGOFF", Signon b"SIGNON",
+            Signoff b"SIGNOFF", Cemt b"CEMT", Shutdown b"SHUTDOWN", Takeover b"TAKEOVER",
+            Plan b"PLAN", Choices b"CHOICES", End b"END", Tick b"TICK", Step b"STEP", Lose b"LOSE",
+            Stop b"STOP", NoneWord b"NONE", All b"ALL", Torn b"TORN", Fail b"FAIL", Start b"START",
+            Active b"ACTIVE", Standby b"STANDBY", Abend b"ABEND", Confirm b"CONFIRM",
+            Reply b"REPLY", Go b"GO", Ignore b"IGNORE", Cebt b"CEBT", Perform b"PERFORM",
+            Inquire b"INQUIRE", Set b"SET", Surveillance b"SURVEILLANCE", Exit b"EXIT",
+            Keep b"KEEP", Drop b"DROP",
         }
     }
 }

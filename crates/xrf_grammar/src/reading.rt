@@ -13,17 +13,18 @@ use crate::reason::Reason;
 use crate::saying::say;
 use crate::spelled::{choice_by_first_word, setting_by_first_word};
 use crate::table::{choices, settings};
-use crate::word::{first_word, second_word};
+use crate::word::{first_word, front_words, second_word};
 use xrf_setup::Format;
 use xrf_text::split_word;
 
+#[tactic(auto, using(crate::proofs::FrontLaws::said_by_front))]
 fn read_form(form: Form, line: &[u8]) -> Result<Line, Reason>
     ensures { result ≡ line_of_form form (words line.now) }
 {
     if let Some(reason) = find_fault(form.parts(), line) {
         return Err(reason);
     }
-    match say(form, line) {
+    match say(form, &front_words(line)) {
         Some(line) => Ok(line),
         None => Err(Reason::WordCount),
     }

@@ -1,7 +1,7 @@
-//! What a line of a form says.
+//! What the words of a form say.
 
 ghost use Rattle.std.specs.Prelude.{◌≡◌};
-ghost use Rattle.xrf_text.specs.Text.{words};
+ghost use Rattle.xrf_text.specs.Text.{texts};
 ghost use Rattle.xrf_grammar.specs.Saying.{torn_said, site_said, choice_said, once_said, item_said, work_said, plan_said, applid_said, level_said, record_said, said};
 
 use crate::form::{ChoiceForm, Form, ItemForm};
@@ -9,29 +9,29 @@ use crate::hex::read_hex;
 use crate::line::Line;
 use crate::number::read_number;
 use crate::operand::{read_class, read_site};
-use crate::word::{behind_first, fifth_word, fourth_word, second_word, sixth_word, third_word};
+use crate::word::{behind, fifth, fourth, second, sixth, third};
 use xrf_base::{Inc, Item, Name8, Site, Value};
 use xrf_setup::{Choice, Landing};
 
-fn torn(line: &[u8]) -> Option<Landing>
-    ensures { result ≡ torn_said (words line.now) }
+fn torn(words: &[&[u8]]) -> Option<Landing>
+    ensures { result ≡ torn_said (texts words.now) }
 {
-    Some(Landing::Torn(read_hex(fourth_word(line))?))
+    Some(Landing::Torn(read_hex(fourth(words))?))
 }
 
 // the choices that name a site alone, or a site and keywords
-fn choice_of_site(form: ChoiceForm, site: Site, line: &[u8]) -> Option<Choice>
-    ensures { result ≡ site_said form site (words line.now) }
+fn choice_of_site(form: ChoiceForm, site: Site, words: &[&[u8]]) -> Option<Choice>
+    ensures { result ≡ site_said form site (texts words.now) }
 {
     match form {
         ChoiceForm::Step | ChoiceForm::StepTimes => Some(Choice::Step(site)),
         ChoiceForm::Lose => Some(Choice::Lose(site)),
         ChoiceForm::StopNothing => Some(Choice::Stop(site, Landing::Nothing)),
         ChoiceForm::StopAll => Some(Choice::Stop(site, Landing::All)),
-        ChoiceForm::StopTorn => Some(Choice::Stop(site, torn(line)?)),
+        ChoiceForm::StopTorn => Some(Choice::Stop(site, torn(words)?)),
         ChoiceForm::FailNothing => Some(Choice::Fail(site, Landing::Nothing)),
         ChoiceForm::FailAll => Some(Choice::Fail(site, Landing::All)),
-        ChoiceForm::FailTorn => Some(Choice::Fail(site, torn(line)?)),
+        ChoiceForm::FailTorn => Some(Choice::Fail(site, torn(words)?)),
         ChoiceForm::StartActive => Some(Choice::StartActive(site)),
         ChoiceForm::StartStandby => Some(Choice::StartStandby(site)),
         ChoiceForm::Abend => Some(Choice::Abend(site)),
@@ -43,118 +43,118 @@ fn choice_of_site(form: ChoiceForm, site: Site, line: &[u8]) -> Option<Choice>
 }
 
 /// The choice that a line of a form says, its count left out.
-fn say_choice(form: ChoiceForm, line: &[u8]) -> Option<Choice>
-    ensures { result ≡ choice_said form (words line.now) }
+fn say_choice(form: ChoiceForm, words: &[&[u8]]) -> Option<Choice>
+    ensures { result ≡ choice_said form (texts words.now) }
 {
     match form {
         ChoiceForm::Tick | ChoiceForm::TickTimes => Some(Choice::Tick),
-        ChoiceForm::Confirm => Some(Choice::Confirm(read_number(second_word(line))? as Inc)),
-        _ => choice_of_site(form, read_site(second_word(line))?, line),
+        ChoiceForm::Confirm => Some(Choice::Confirm(read_number(second(words))? as Inc)),
+        _ => choice_of_site(form, read_site(second(words))?, words),
     }
 }
 
 /// A choice with its count, where it has one.
-fn say_once(form: ChoiceForm, line: &[u8]) -> Option<Line>
-    ensures { result ≡ once_said form (words line.now) }
+fn say_once(form: ChoiceForm, words: &[&[u8]]) -> Option<Line>
+    ensures { result ≡ once_said form (texts words.now) }
 {
-    let choice = say_choice(form, line)?;
+    let choice = say_choice(form, words)?;
     match form {
-        ChoiceForm::TickTimes => Some(Line::Times(choice, read_number(second_word(line))?)),
-        ChoiceForm::StepTimes => Some(Line::Times(choice, read_number(third_word(line))?)),
+        ChoiceForm::TickTimes => Some(Line::Times(choice, read_number(second(words))?)),
+        ChoiceForm::StepTimes => Some(Line::Times(choice, read_number(third(words))?)),
         _ => Some(Line::Once(choice)),
     }
 }
 
 // the item of a line of work, whose operands stand from the fourth word on
-fn say_item(form: ItemForm, line: &[u8]) -> Option<Item>
-    ensures { result ≡ item_said form (words line.now) }
+fn say_item(form: ItemForm, words: &[&[u8]]) -> Option<Item>
+    ensures { result ≡ item_said form (texts words.now) }
 {
     match form {
-        ItemForm::Begin => Some(Item::Begin(Name8::read(fourth_word(line))?)),
+        ItemForm::Begin => Some(Item::Begin(Name8::read(fourth(words))?)),
         ItemForm::Put => {
-            let unit = Name8::read(fourth_word(line))?;
-            let number = read_number(fifth_word(line))?;
-            Some(Item::Put(unit, number, Value::read(sixth_word(line))?))
+            let unit = Name8::read(fourth(words))?;
+            let number = read_number(fifth(words))?;
+            Some(Item::Put(unit, number, Value::read(sixth(words))?))
         }
         ItemForm::Get => {
-            let unit = Name8::read(fourth_word(line))?;
-            Some(Item::Get(unit, read_number(fifth_word(line))?))
+            let unit = Name8::read(fourth(words))?;
+            Some(Item::Get(unit, read_number(fifth(words))?))
         }
-        ItemForm::Commit => Some(Item::Commit(Name8::read(fourth_word(line))?)),
-        ItemForm::Roll => Some(Item::Roll(Name8::read(fourth_word(line))?)),
+        ItemForm::Commit => Some(Item::Commit(Name8::read(fourth(words))?)),
+        ItemForm::Roll => Some(Item::Roll(Name8::read(fourth(words))?)),
         ItemForm::Logon => {
-            let terminal = Name8::read(fourth_word(line))?;
-            Some(Item::Logon(terminal, read_class(fifth_word(line))?))
+            let terminal = Name8::read(fourth(words))?;
+            Some(Item::Logon(terminal, read_class(fifth(words))?))
         }
-        ItemForm::Logoff => Some(Item::Logoff(Name8::read(fourth_word(line))?)),
+        ItemForm::Logoff => Some(Item::Logoff(Name8::read(fourth(words))?)),
         ItemForm::Signon => {
-            let terminal = Name8::read(fourth_word(line))?;
-            Some(Item::Signon(terminal, Name8::read(fifth_word(line))?))
+            let terminal = Name8::read(fourth(words))?;
+            Some(Item::Signon(terminal, Name8::read(fifth(words))?))
         }
-        ItemForm::Signoff => Some(Item::Signoff(Name8::read(fourth_word(line))?)),
+        ItemForm::Signoff => Some(Item::Signoff(Name8::read(fourth(words))?)),
         ItemForm::Shutdown => Some(Item::Shutdown),
         ItemForm::ShutdownTakeover => Some(Item::ShutdownTakeover),
     }
 }
 
-fn say_work(form: ItemForm, line: &[u8]) -> Option<Line>
-    ensures { result ≡ work_said form (words line.now) }
+fn say_work(form: ItemForm, words: &[&[u8]]) -> Option<Line>
+    ensures { result ≡ work_said form (texts words.now) }
 {
-    let site = read_site(second_word(line))?;
-    Some(Line::Work(site, say_item(form, line)?))
+    let site = read_site(second(words))?;
+    Some(Line::Work(site, say_item(form, words)?))
 }
 
-fn say_plan(form: ChoiceForm, line: &[u8]) -> Option<Line>
-    ensures { result ≡ plan_said form (words line.now) }
+fn say_plan(form: ChoiceForm, words: &[&[u8]]) -> Option<Line>
+    ensures { result ≡ plan_said form (texts words.now) }
 {
-    let tick = read_number(second_word(line))?;
-    Some(Line::Plan(tick, say_choice(form, behind_first(behind_first(line)))?))
+    let tick = read_number(second(words))?;
+    Some(Line::Plan(tick, say_choice(form, behind(behind(words)))?))
 }
 
-fn say_applid(line: &[u8]) -> Option<Line>
-    ensures { result ≡ applid_said (words line.now) }
+fn say_applid(words: &[&[u8]]) -> Option<Line>
+    ensures { result ≡ applid_said (texts words.now) }
 {
-    let site = read_site(second_word(line))?;
-    Some(Line::Applid(site, Name8::read(third_word(line))?))
+    let site = read_site(second(words))?;
+    Some(Line::Applid(site, Name8::read(third(words))?))
 }
 
-fn say_level(line: &[u8]) -> Option<Line>
-    ensures { result ≡ level_said (words line.now) }
+fn say_level(words: &[&[u8]]) -> Option<Line>
+    ensures { result ≡ level_said (texts words.now) }
 {
-    let site = read_site(second_word(line))?;
-    Some(Line::Level(site, read_number(third_word(line))?))
+    let site = read_site(second(words))?;
+    Some(Line::Level(site, read_number(third(words))?))
 }
 
-fn say_record(line: &[u8]) -> Option<Line>
-    ensures { result ≡ record_said (words line.now) }
+fn say_record(words: &[&[u8]]) -> Option<Line>
+    ensures { result ≡ record_said (texts words.now) }
 {
-    let number = read_number(second_word(line))?;
-    Some(Line::Record(number, Value::read(third_word(line))?))
+    let number = read_number(second(words))?;
+    Some(Line::Record(number, Value::read(third(words))?))
 }
 
 /// What a line of a form says.
-pub(crate) fn say(form: Form, line: &[u8]) -> Option<Line>
-    ensures { result ≡ said form (words line.now) }
+pub(crate) fn say(form: Form, words: &[&[u8]]) -> Option<Line>
+    ensures { result ≡ said form (texts words.now) }
 {
     match form {
-        Form::Applid => say_applid(line),
+        Form::Applid => say_applid(words),
         Form::Takeovr(mode) => Some(Line::Takeovr(mode)),
-        Form::Adi => Some(Line::Adi(read_number(second_word(line))?)),
-        Form::Pdi => Some(Line::Pdi(read_number(second_word(line))?)),
-        Form::Log => Some(Line::Log(read_number(second_word(line))?)),
-        Form::Ring => Some(Line::Ring(read_number(second_word(line))?)),
-        Form::File => Some(Line::File(read_number(second_word(line))?)),
-        Form::Pace => Some(Line::Pace(read_number(second_word(line))?)),
-        Form::Ticks => Some(Line::Ticks(read_number(second_word(line))?)),
+        Form::Adi => Some(Line::Adi(read_number(second(words))?)),
+        Form::Pdi => Some(Line::Pdi(read_number(second(words))?)),
+        Form::Log => Some(Line::Log(read_number(second(words))?)),
+        Form::Ring => Some(Line::Ring(read_number(second(words))?)),
+        Form::File => Some(Line::File(read_number(second(words))?)),
+        Form::Pace => Some(Line::Pace(read_number(second(words))?)),
+        Form::Ticks => Some(Line::Ticks(read_number(second(words))?)),
         Form::Images(on) => Some(Line::Images(on)),
-        Form::Level => say_level(line),
+        Form::Level => say_level(words),
         Form::Xrfsoff(force) => Some(Line::Xrfsoff(force)),
-        Form::Record => say_record(line),
+        Form::Record => say_record(words),
         Form::CltCancel | Form::CltCommand | Form::CltWto => Some(Line::Clt),
-        Form::Work(item) => say_work(item, line),
-        Form::Plan(choice) => say_plan(choice, line),
+        Form::Work(item) => say_work(item, words),
+        Form::Plan(choice) => say_plan(choice, words),
         Form::Choices => Some(Line::Choices),
-        Form::Choice(choice) => say_once(choice, line),
+        Form::Choice(choice) => say_once(choice, words),
         Form::End => Some(Line::End),
     }
 }

@@ -13,6 +13,7 @@ use crate::form::{Form, Part};
 use crate::line::Line;
 use crate::operand::fault_of_operand;
 use crate::saying::say;
+use crate::word::first;
 use xrf_setup::Format;
 use xrf_text::LineWords;
 
@@ -57,45 +58,34 @@ fn are_of_form(parts: &[Part], line_words: &[&[u8]]) -> bool
     are_of_form(later, rest)
 }
 
-/// The line that the words of a text spell by the first of these forms that they are of.
+/// The line that some words spell by the first of these forms that they are of.
 #[tactic(auto, using(crate::proofs::SpelledLaws::spelled_here, crate::proofs::SpelledLaws::spelled_later))]
-fn spelled(forms: &[Form], line_words: &[&[u8]], line: &[u8]) -> Option<Line>
-    requires { texts line_words.now ≡ words line.now }
-    ensures { IfSome result (λ says. Spells forms.now (words line.now) says) }
+fn spelled(forms: &[Form], line_words: &[&[u8]]) -> Option<Line>
+    ensures { IfSome result (λ says. Spells forms.now (texts line_words.now) says) }
 {
     let [form, more @ ..] = forms else {
         return None;
     };
     if are_of_form(form.parts(), line_words) {
-        return say(*form, line);
+        return say(*form, line_words);
     }
-    spelled(more, line_words, line)
-}
-
-/// The first word of some words.
-fn first<'a>(words: &[&'a [u8]]) -> &'a [u8] {
-    match words {
-        [word, ..] => word,
-        [] => &[],
-    }
+    spelled(more, line_words)
 }
 
 /// What a line before the choices says, where it is found by its first word.
-#[tactic(auto, using(crate::proofs::SpelledLaws::setting_read))]
 pub(crate) fn setting_by_first_word(format: Format, line: &[u8]) -> Option<Line>
     ensures { IfSome result (λ says. Ok says ≡ line_of (settings_of format) (words line.now)) }
 {
     let words = LineWords::split(line)?;
     let forms = settings_beginning(format, first(words.as_slice()));
-    spelled(forms, words.as_slice(), line)
+    spelled(forms, words.as_slice())
 }
 
 /// What a line behind the line CHOICES says, where it is found by its first word.
-#[tactic(auto, using(crate::proofs::SpelledLaws::choice_read))]
 pub(crate) fn choice_by_first_word(line: &[u8]) -> Option<Line>
     ensures { IfSome result (λ says. Ok says ≡ line_of choices_table (words line.now)) }
 {
     let words = LineWords::split(line)?;
     let forms = choices_beginning(first(words.as_slice()));
-    spelled(forms, words.as_slice(), line)
+    spelled(forms, words.as_slice())
 }

@@ -48,78 +48,54 @@ macro_rules! with_choices {
     };
 }
 
+/// The forms before the choices, with those of levels and those of users where there are any.
+macro_rules! settings {
+    ([$($level:expr,)*], [$($user:expr,)*]) => {
+        with_choices!(
+            [
+                Form::Applid,
+                Form::Takeovr(Takeovr::Auto),
+                Form::Takeovr(Takeovr::Manual),
+                Form::Takeovr(Takeovr::Command),
+                Form::Adi,
+                Form::Pdi,
+                Form::Log,
+                Form::Ring,
+                Form::File,
+                Form::Pace,
+                Form::Ticks,
+                Form::Images(true),
+                Form::Images(false),
+                $($level,)*
+                Form::Record,
+                Form::CltCancel,
+                Form::CltCommand,
+                Form::CltWto,
+                Form::Work(ItemForm::Begin),
+                Form::Work(ItemForm::Put),
+                Form::Work(ItemForm::Get),
+                Form::Work(ItemForm::Commit),
+                Form::Work(ItemForm::Roll),
+                Form::Work(ItemForm::Logon),
+                Form::Work(ItemForm::Logoff),
+                $($user,)*
+                Form::Work(ItemForm::Shutdown),
+                Form::Work(ItemForm::ShutdownTakeover),
+            ],
+            Plan,
+            Form::Choices
+        )
+    };
+}
+
 /// The forms before the choices under the header XRF 2.
-const SETTINGS_OF_TWO: [Form; 61] = with_choices!(
-    [
-        Form::Applid,
-        Form::Takeovr(Takeovr::Auto),
-        Form::Takeovr(Takeovr::Manual),
-        Form::Takeovr(Takeovr::Command),
-        Form::Adi,
-        Form::Pdi,
-        Form::Log,
-        Form::Ring,
-        Form::File,
-        Form::Pace,
-        Form::Ticks,
-        Form::Images(true),
-        Form::Images(false),
-        Form::Level,
-        Form::Xrfsoff(true),
-        Form::Xrfsoff(false),
-        Form::Record,
-        Form::CltCancel,
-        Form::CltCommand,
-        Form::CltWto,
-        Form::Work(ItemForm::Begin),
-        Form::Work(ItemForm::Put),
-        Form::Work(ItemForm::Get),
-        Form::Work(ItemForm::Commit),
-        Form::Work(ItemForm::Roll),
-        Form::Work(ItemForm::Logon),
-        Form::Work(ItemForm::Logoff),
-        Form::Work(ItemForm::Signon),
-        Form::Work(ItemForm::Signoff),
-        Form::Work(ItemForm::Shutdown),
-        Form::Work(ItemForm::ShutdownTakeover),
-    ],
-    Plan,
-    Form::Choices
+const SETTINGS_OF_TWO: [Form; 61] = settings!(
+    [Form::Level, Form::Xrfsoff(true), Form::Xrfsoff(false),],
+    [Form::Work(ItemForm::Signon), Form::Work(ItemForm::Signoff),]
 );
 
 /// Those under the header XRF 1, which has no levels and no users.
-const SETTINGS_OF_ONE: [Form; 56] = with_choices!(
-    [
-        Form::Applid,
-        Form::Takeovr(Takeovr::Auto),
-        Form::Takeovr(Takeovr::Manual),
-        Form::Takeovr(Takeovr::Command),
-        Form::Adi,
-        Form::Pdi,
-        Form::Log,
-        Form::Ring,
-        Form::File,
-        Form::Pace,
-        Form::Ticks,
-        Form::Images(true),
-        Form::Images(false),
-        Form::Record,
-        Form::CltCancel,
-        Form::CltCommand,
-        Form::CltWto,
-        Form::Work(ItemForm::Begin),
-        Form::Work(ItemForm::Put),
-        Form::Work(ItemForm::Get),
-        Form::Work(ItemForm::Commit),
-        Form::Work(ItemForm::Roll),
-        Form::Work(ItemForm::Logon),
-        Form::Work(ItemForm::Logoff),
-        Form::Work(ItemForm::Shutdown),
-        Form::Work(ItemForm::ShutdownTakeover),
-    ],
-    Plan,
-    Form::Choices
-);
+const SETTINGS_OF_ONE: [Form; 56] = settings!([], []);
 
 /// The forms behind the line CHOICES.
 const CHOICES: [Form; 30] = with_choices!([], Choice, Form::End);

@@ -1,12 +1,12 @@
-//! The first word of a line, and the words behind it.
+//! The words of a line by their places: of the line itself, and of its words once it is split.
 
 ghost use Rattle.std.specs.Prelude.{◌≡◌};
-ghost use Rattle.xrf_text.specs.Text.{words};
-ghost use Rattle.xrf_grammar.specs.Places.{first, behind, second, third, fourth, fifth, sixth};
+ghost use Rattle.xrf_text.specs.Text.{words, texts};
+ghost use Rattle.xrf_grammar.specs.Places.{first, behind, second, third, fourth, fifth, sixth, front};
 
 use xrf_text::split_word;
 
-/// The first word, or the empty text where there is none.
+/// The first word of a line, or the empty text where there is none.
 pub(crate) fn first_word(line: &[u8]) -> &[u8]
     ensures { result.now ≡ first (words line.now) }
 {
@@ -16,8 +16,8 @@ pub(crate) fn first_word(line: &[u8]) -> &[u8]
     }
 }
 
-/// What stands behind the first word.
-pub(crate) fn behind_first(line: &[u8]) -> &[u8]
+/// What stands behind the first word of a line.
+fn behind_first(line: &[u8]) -> &[u8]
     ensures { words result.now ≡ behind (words line.now) }
 {
     match split_word(line) {
@@ -26,33 +26,78 @@ pub(crate) fn behind_first(line: &[u8]) -> &[u8]
     }
 }
 
-/// The second word, and so on.
+/// The second word of a line.
 pub(crate) fn second_word(line: &[u8]) -> &[u8]
     ensures { result.now ≡ second (words line.now) }
 {
     first_word(behind_first(line))
 }
 
-pub(crate) fn third_word(line: &[u8]) -> &[u8]
-    ensures { result.now ≡ third (words line.now) }
+/// The first six words of a line, with empty texts in the places of those that are missing.
+pub(crate) fn front_words(line: &[u8]) -> [&[u8]; 6]
+    ensures { texts result ≡ front (words line.now) }
 {
-    second_word(behind_first(line))
+    let from_second = behind_first(line);
+    let from_third = behind_first(from_second);
+    let from_fourth = behind_first(from_third);
+    let from_fifth = behind_first(from_fourth);
+    [
+        first_word(line),
+        first_word(from_second),
+        first_word(from_third),
+        first_word(from_fourth),
+        first_word(from_fifth),
+        second_word(from_fifth),
+    ]
 }
 
-pub(crate) fn fourth_word(line: &[u8]) -> &[u8]
-    ensures { result.now ≡ fourth (words line.now) }
+/// The first of some words, or the empty text where there is none.
+pub(crate) fn first<'a>(words: &[&'a [u8]]) -> &'a [u8]
+    ensures { result.now ≡ first (texts words.now) }
 {
-    third_word(behind_first(line))
+    match words {
+        [word, ..] => word,
+        [] => &[],
+    }
 }
 
-pub(crate) fn fifth_word(line: &[u8]) -> &[u8]
-    ensures { result.now ≡ fifth (words line.now) }
+/// The words behind the first.
+pub(crate) fn behind<'w, 'a>(words: &'w [&'a [u8]]) -> &'w [&'a [u8]]
+    ensures { texts result.now ≡ behind (texts words.now) }
 {
-    fourth_word(behind_first(line))
+    match words {
+        [_, more @ ..] => more,
+        [] => words,
+    }
 }
 
-pub(crate) fn sixth_word(line: &[u8]) -> &[u8]
-    ensures { result.now ≡ sixth (words line.now) }
+/// The second word, and so on.
+pub(crate) fn second<'a>(words: &[&'a [u8]]) -> &'a [u8]
+    ensures { result.now ≡ second (texts words.now) }
 {
-    fifth_word(behind_first(line))
+    first(behind(words))
+}
+
+pub(crate) fn third<'a>(words: &[&'a [u8]]) -> &'a [u8]
+    ensures { result.now ≡ third (texts words.now) }
+{
+    second(behind(words))
+}
+
+pub(crate) fn fourth<'a>(words: &[&'a [u8]]) -> &'a [u8]
+    ensures { result.now ≡ fourth (texts words.now) }
+{
+    third(behind(words))
+}
+
+pub(crate) fn fifth<'a>(words: &[&'a [u8]]) -> &'a [u8]
+    ensures { result.now ≡ fifth (texts words.now) }
+{
+    fourth(behind(words))
+}
+
+pub(crate) fn sixth<'a>(words: &[&'a [u8]]) -> &'a [u8]
+    ensures { result.now ≡ sixth (texts words.now) }
+{
+    fifth(behind(words))
 }

@@ -1,6 +1,6 @@
 //! How a choice and a work item are written: one spelling of each.
 
-ghost use Rattle.std.specs.Prelude.{◌≡◌, ◌<◌, ◌++◌, OnOk, codes};
+ghost use Rattle.std.specs.Prelude.{◌≡◌, ◌+◌, ◌<◌, ◌++◌, ◌∷◌, [], OnOk, codes};
 ghost use Rattle.std.specs.Fmt.{decimal};
 ghost use Rattle.xrf_cebt.specs.Command.{command_text};
 ghost use Rattle.xrf_grammar.specs.Spelling.{hex_digit, hex_text, piece_text, pieces_text, site_text, site_word, answer_word, landed_text, go_text, choice_text, item_text};
@@ -23,6 +23,7 @@ pub enum Piece<'a> {
     Hex(&'a [u8]),
 }
 
+#[inline(always)]
 pub(crate) fn put_text(out: &mut Vec<u8>, text: &[u8]) -> Result<(), AllocError>
     ensures { OnOk result (out.new.items ≡ out.old.items ++ text.now) }
 {
@@ -30,11 +31,24 @@ pub(crate) fn put_text(out: &mut Vec<u8>, text: &[u8]) -> Result<(), AllocError>
     Ok(())
 }
 
-fn put_number(alloc: Global, out: &mut Vec<u8>, number: u64) -> Result<(), AllocError>
+// the digit of a number below 10
+fn put_digit(out: &mut Vec<u8>, number: u64) -> Result<(), AllocError>
+    requires { number < 10 }
+    ensures { OnOk result (out.new.items ≡ out.old.items ++ (48 + number) ∷ []) }
+{
+    out.push(b'0' + number as u8)?;
+    Ok(())
+}
+
+#[tactic(auto, using(crate::proofs::NumberLaws::one_digit, crate::proofs::NumberLaws::last_digit))]
+fn put_number(out: &mut Vec<u8>, number: u64) -> Result<(), AllocError>
     ensures { OnOk result (out.new.items ≡ out.old.items ++ decimal number) }
 {
-    let digits = number.to_string(alloc)?;
-    put_text(out, digits.as_bytes())
+    if number < 10 {
+        return put_digit(out, number);
+    }
+    put_number(out, number / 10)?;
+    put_digit(out, number % 10)
 }
 
 // the digit of a number below 16
@@ -58,22 +72,24 @@ fn put_hex(out: &mut Vec<u8>, bytes: &[u8]) -> Result<(), AllocError>
     Ok(())
 }
 
-fn put_piece(alloc: Global, out: &mut Vec<u8>, piece: &Piece) -> Result<(), AllocError>
+#[inline(always)]
+fn put_piece(out: &mut Vec<u8>, piece: &Piece) -> Result<(), AllocError>
     ensures { OnOk result (out.new.items ≡ out.old.items ++ piece_text piece.now) }
 {
     match piece {
         Piece::Text(text) => put_text(out, text),
-        Piece::Number(number) => put_number(alloc, out, *number),
+        Piece::Number(number) => put_number(out, *number),
         Piece::Hex(bytes) => put_hex(out, bytes),
     }
 }
 
 /// Appends the pieces to a text.
+#[inline(always)]
 pub fn put(alloc: Global, out: &mut Vec<u8>, pieces: &[Piece]) -> Result<(), AllocError>
     ensures { OnOk result (out.new.items ≡ out.old.items ++ pieces_text pieces.now) }
 {
     for piece in pieces {
-        put_piece(alloc, out, piece)?;
+        put_piece(out, piece)?;
     }
     Ok(())
 }

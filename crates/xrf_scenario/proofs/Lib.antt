@@ -18,3 +18,4 @@ pub mod CanonLaws
 pub mod HeldLaws
 pub mod WritingLaws
 pub mod ReasonLaws
+pub mod AgainLaws

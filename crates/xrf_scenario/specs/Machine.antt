@@ -1,10 +1,12 @@
 -- Reading as it goes on from what is said so far.
-use Rattle.std.specs.Prelude.{ℕ, ◌+◌, max, Bool, true, false, List, [], ◌∷◌, Some, None, Result, Ok, Err, if◌then◌else◌}
+use Rattle.std.specs.Prelude.{◌≡◌, ℕ, ◌+◌, max, Bool, true, false, List, [], ◌∷◌, Some, None, Result, Ok, Err, if◌then◌else◌}
 use Rattle.xrf_text.specs.Text.{words}
 use Rattle.xrf_grammar.specs.Reading.{header_of, line_of}
 use Rattle.xrf_grammar.specs.Table.{settings_of, choices_table}
 use Rattle.xrf_setup.specs.declared.format.Format.{Format}
 use Rattle.xrf_grammar.specs.declared.line.Line.{Line}
+use Rattle.xrf_grammar.specs.declared.line.Line.TheVariants.{Once}
+use Rattle.xrf_setup.specs.declared.choice.Choice.{Choice}
 use Rattle.xrf_grammar.specs.declared.reason.Reason.{Reason}
 use Rattle.xrf_grammar.specs.declared.reason.Reason.TheVariants.{AfterEnd, NoEnd, NotBuilt}
 use Rattle.xrf_scenario.specs.Built.{allows, allows_format}
@@ -44,6 +46,12 @@ step forms number so line =
     if is_skipped line then Ok so
     else if is_whole so.part then (if is_report line then Ok so else Err AfterEnd)
     else elim (bytes_fault line) [ Some reason ↦ Err reason | None ↦ take_words so.part forms number so (words line) ]
+
+-- A line behind CHOICES that says a choice once.
+pub record SaysOnce (line : List ℕ) (choice : Choice) : Type 0 where
+  pub shown : is_skipped line ≡ false
+  pub bytes : bytes_fault line ≡ None
+  pub spelled : line_of choices_table (words line) ≡ Ok (Once choice)
 
 -- the number of a line and the reason for which it is bad
 pub record Fault : Type 0 where

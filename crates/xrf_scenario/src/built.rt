@@ -2,10 +2,11 @@
 
 ghost use Rattle.std.specs.Prelude.{◌≡◌, ℕ, List};
 ghost use Rattle.xrf_setup.specs.Items.{HasItem};
-ghost use Rattle.xrf_grammar.specs.declared.line.Line.TheVariants.{Work};
+ghost use Rattle.xrf_grammar.specs.declared.line.Line.TheVariants.{Once, Work};
 ghost use Rattle.xrf_scenario.specs.Built.{allows_format, allows, is_built, is_built_choice};
 ghost use Rattle.xrf_scenario.specs.Held.{said};
 ghost use Rattle.xrf_scenario.specs.Said.{IsSaid, IsLineSaid};
+ghost use Rattle.xrf_scenario.specs.SoFar.{SoFar};
 
 use crate::reading::Reading;
 use crate::work::{goes_on, put_count, puts_in};
@@ -38,7 +39,7 @@ fn is_built_choice(choice: &Choice) -> bool
     matches!(choice, Choice::StartActive(Site::A) | Choice::Step(Site::A))
 }
 
-fn is_built_work(reading: &Reading, site: Site, item: &Item) -> bool
+fn is_built_work<'a>(reading: &Reading<'a>, site: Site, item: &Item) -> bool
     requires said { IsSaid (said reading.now) }
     requires item { HasItem item.now }
     ensures { result ≡ is_built (said reading.now) (Work site item.now) }
@@ -52,7 +53,7 @@ fn is_built_work(reading: &Reading, site: Site, item: &Item) -> bool
     goes_on(&reading.work_a, item)
 }
 
-fn is_built(reading: &Reading, line: &Line) -> bool
+fn is_built<'a>(reading: &Reading<'a>, line: &Line) -> bool
     requires said { IsSaid (said reading.now) }
     requires line { (ws : List (List ℕ)) × IsLineSaid (said reading.now).format ws line.now }
     ensures { result ≡ is_built (said reading.now) line.now }
@@ -67,8 +68,18 @@ fn is_built(reading: &Reading, line: &Line) -> bool
     }
 }
 
+/// Whether a line that says a choice may come.
+pub fn allows_choice(forms: Forms, choice: &Choice) -> bool
+    ensures { (so : SoFar) → result ≡ allows forms so (Once choice.now) }
+{
+    match forms {
+        Forms::All => true,
+        Forms::Built => is_built_choice(choice),
+    }
+}
+
 /// Whether a line may come behind these.
-pub fn allows(forms: Forms, reading: &Reading, line: &Line) -> bool
+pub fn allows<'a>(forms: Forms, reading: &Reading<'a>, line: &Line) -> bool
     requires said { IsSaid (said reading.now) }
     requires line { (ws : List (List ℕ)) × IsLineSaid (said reading.now).format ws line.now }
     ensures { result ≡ allows forms (said reading.now) line.now }

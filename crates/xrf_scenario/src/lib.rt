@@ -5,6 +5,7 @@
 mod built;
 mod canonical;
 mod given;
+mod last_choice;
 mod level;
 mod lines;
 mod numbered;

@@ -4,6 +4,7 @@ ghost use Rattle.std.specs.Prelude.{◌≡◌, IfOk, None, replicate};
 ghost use Rattle.xrf_scenario.specs.SoFar.{nothing_said, nothing_given};
 
 use crate::given::{Given, Part};
+use crate::last_choice::LastChoice;
 use crate::numbered::Numbered;
 use std::alloc::{AllocError, Global};
 use xrf_base::{Item, Tick, Value};
@@ -13,7 +14,7 @@ use xrf_setup::{Choice, Format};
 
 /// What the lines so far say.
 #[derive(Drop)]
-pub struct Reading {
+pub struct Reading<'a> {
     /// The part of the text that the next line is of.
     pub part: Part,
     pub format: Format,
@@ -25,6 +26,8 @@ pub struct Reading {
     pub work_b: Vec<Item>,
     pub plan: Vec<(Tick, Choice)>,
     pub choices: Vec<Numbered>,
+    /// The last of the lines that say a choice once.
+    pub last_choice: LastChoice<'a>,
 }
 
 const NOTHING_GIVEN: Given = Given {
@@ -55,11 +58,11 @@ fn empty_places(alloc: Global) -> Result<Vec<Option<Value>>, AllocError>
     Ok(places)
 }
 
-impl Reading {
+impl<'a> Reading<'a> {
     ghost use Rattle.xrf_scenario.specs.Held.{said};
 
     /// A reading of no line.
-    pub fn new(alloc: Global) -> Result<Reading, AllocError>
+    pub fn new(alloc: Global) -> Result<Reading<'a>, AllocError>
         ensures { IfOk result (λ r. said r ≡ nothing_said) }
     {
         Ok(Reading {
@@ -72,6 +75,7 @@ impl Reading {
             work_b: Vec::new(alloc),
             plan: Vec::new(alloc),
             choices: Vec::new(alloc),
+            last_choice: LastChoice::none(),
         })
     }
 }

@@ -22,7 +22,7 @@ fn once<T: Copy>(slot: &mut Option<T>, value: T) -> Result<(), Stop>
     Ok(())
 }
 
-impl Reading {
+impl<'a> Reading<'a> {
     fn take_applid(&mut self, site: Site, name: Name8) -> Result<(), Stop>
         ensures { Tells result (said self.new) (take_setting (said self.old) self.old.given (Applid site name)) }
     {

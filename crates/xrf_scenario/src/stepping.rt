@@ -1,22 +1,26 @@
 //! One line of a text, in the part of the text that it is of.
 
-ghost use Rattle.std.specs.Prelude.{◌≡◌, None, Ok};
+ghost use Rattle.std.specs.Prelude.{◌≡◌, ℕ, List, false, None, Ok, IfSome};
 ghost use Rattle.xrf_grammar.specs.Reading.{header_of, line_of};
 ghost use Rattle.xrf_grammar.specs.Table.{settings_of, choices_table};
 ghost use Rattle.xrf_scenario.specs.Held.{said, Tells};
-ghost use Rattle.xrf_scenario.specs.Lines.{bytes_fault};
-ghost use Rattle.xrf_scenario.specs.Machine.{take_header, take_line, take_words, step};
+ghost use Rattle.xrf_grammar.specs.declared.line.Line.TheVariants.{Once};
+ghost use Rattle.xrf_scenario.specs.declared.given.Part.TheVariants.{Making};
+ghost use Rattle.xrf_scenario.specs.Lines.{bytes_fault, is_skipped};
+ghost use Rattle.xrf_scenario.specs.Machine.{SaysOnce, take_header, take_line, take_words, step};
 ghost use Rattle.xrf_scenario.specs.Said.{IsSaid, IsLineSaid};
 ghost use Rattle.xrf_scenario.specs.SoFar.{is_whole};
 ghost use Rattle.xrf_text.specs.Text.{words};
 
-use crate::built::{Forms, allows, allows_format};
+use crate::built::{Forms, allows, allows_choice, allows_format};
 use crate::given::Part;
+use crate::last_choice::LastChoice;
 use crate::lines::{bytes_fault, is_report, is_skipped};
 use crate::reading::Reading;
 use crate::stop::Stop;
 use std::alloc::Global;
 use xrf_grammar::{Line, Reason, read_choice, read_header, read_setting};
+use xrf_setup::Choice;
 
 /// Whether END has come.
 pub fn is_whole(part: Part) -> bool
@@ -25,7 +29,7 @@ pub fn is_whole(part: Part) -> bool
     matches!(part, Part::Whole)
 }
 
-impl Reading {
+impl<'a> Reading<'a> {
     fn take_header(&mut self, forms: Forms, text: &[u8]) -> Result<(), Stop>
         ensures { Tells result (said self.new) (take_header forms (said self.old) (header_of (words text.now))) }
     {
@@ -80,20 +84,58 @@ impl Reading {
         }
     }
 
+    // keeps a line that says a choice once
+    fn keep_choice(&mut self, text: &'a [u8], line: &Line)
+        requires shown { is_skipped text.now ≡ false }
+        requires bytes { bytes_fault text.now ≡ None }
+        requires line { line_of choices_table (words text.now) ≡ Ok line.now }
+        ensures { said self.new ≡ said self.old }
+    {
+        if let Line::Once(choice) = line {
+            self.last_choice = LastChoice::new(text, *choice);
+        }
+    }
+
     fn take_choice_line(
         &mut self,
         alloc: Global,
         forms: Forms,
         number: u32,
-        text: &[u8],
+        text: &'a [u8],
     ) -> Result<(), Stop>
-        requires { IsSaid (said self.old) }
+        requires said { IsSaid (said self.old) }
+        requires shown { is_skipped text.now ≡ false }
+        requires bytes { bytes_fault text.now ≡ None }
         ensures { Tells result (said self.new) (take_line forms number (said self.old) (words text.now) (line_of choices_table (words text.now))) }
     {
         match read_choice(text) {
-            Ok(line) => self.take_line(alloc, forms, number, text, &line),
+            Ok(line) => {
+                self.keep_choice(text, &line);
+                self.take_line(alloc, forms, number, text, &line)
+            }
             Err(reason) => Err(Stop::Fault(reason)),
         }
+    }
+
+    // the choice that a line says once, where it is the same as the last that did
+    fn choice_again(&self, line: &[u8]) -> Option<Choice>
+        ensures { IfSome result (λ c. ((said self.now).part ≡ Making) × SaysOnce line.now c) }
+    {
+        match self.part {
+            Part::Making => self.last_choice.of(line),
+            _ => None,
+        }
+    }
+
+    // takes a choice that a line says once
+    fn take_once(&mut self, forms: Forms, number: u32, choice: Choice) -> Result<(), Stop>
+        ensures { (ws : List (List ℕ)) → Tells result (said self.new) (take_line forms number (said self.old) ws (Ok (Once choice))) }
+    {
+        self.take_choice(number, choice, 1)?;
+        if !allows_choice(forms, &choice) {
+            return Err(Stop::Fault(Reason::NotBuilt));
+        }
+        Ok(())
     }
 
     fn take_words(
@@ -101,9 +143,10 @@ impl Reading {
         alloc: Global,
         forms: Forms,
         number: u32,
-        text: &[u8],
+        text: &'a [u8],
     ) -> Result<(), Stop>
         requires said { IsSaid (said self.old) }
+        requires shown { is_skipped text.now ≡ false }
         requires bytes { bytes_fault text.now ≡ None }
         ensures { Tells result (said self.new) (take_words (said self.old).part forms number (said self.old) (words text.now)) }
     {
@@ -122,11 +165,14 @@ impl Reading {
         alloc: Global,
         forms: Forms,
         number: u32,
-        line: &[u8],
+        line: &'a [u8],
     ) -> Result<(), Stop>
         requires { IsSaid (said self.old) }
         ensures { Tells result (said self.new) (step forms number (said self.old) line.now) }
     {
+        if let Some(choice) = self.choice_again(line) {
+            return self.take_once(forms, number, choice);
+        }
         if is_skipped(line) {
             return Ok(());
         }

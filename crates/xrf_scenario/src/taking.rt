@@ -92,7 +92,7 @@ fn behind_first(line: &[u8]) -> &[u8]
     }
 }
 
-impl Reading {
+impl<'a> Reading<'a> {
     fn take_record(&mut self, record_number: u16, value: Value) -> Result<(), Stop>
         requires least { 1 ≤ record_number }
         requires most { record_number ≤ length self.old.records.items }
@@ -145,7 +145,7 @@ impl Reading {
         Ok(())
     }
 
-    fn take_choice(&mut self, line: u32, choice: Choice, count: u16) -> Result<(), Stop>
+    pub(crate) fn take_choice(&mut self, line: u32, choice: Choice, count: u16) -> Result<(), Stop>
         ensures { Tells result (said self.new) (with_room (nat_le (length (said self.old).choices + count) CHOICES_MOST) (record (said self.old) { choices = (said self.old).choices ++ replicate count (numbered line choice) })) }
     {
         if self.choices.len() + count as usize > CHOICES_MOST {

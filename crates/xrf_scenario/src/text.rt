@@ -52,9 +52,9 @@ fn bad_of(stop: Stop, line: u32, behind: &[u8]) -> ReadBad
     }
 }
 
-fn end_or_fault(forms: Forms, reading: Reading, count: u32) -> Result<Reading, ReadBad>
+fn end_or_fault<'a>(forms: Forms, reading: Reading<'a>, count: u32) -> Result<Reading<'a>, ReadBad>
     requires { IsSaid (said reading) }
-    ensures gives { Gives result (read_on forms (said reading) count []) }
+    ensures gives { Gives result (read_on forms (said reading.entry) count []) }
     ensures whole { IfOk result (λ r. IsSaid (said r) × (is_whole r.part ≡ true)) }
 {
     if is_whole(reading.part) {
@@ -66,7 +66,7 @@ fn end_or_fault(forms: Forms, reading: Reading, count: u32) -> Result<Reading, R
     })
 }
 
-fn read_lines(alloc: Global, forms: Forms, text: &[u8]) -> Result<Reading, ReadBad>
+fn read_lines<'a>(alloc: Global, forms: Forms, text: &'a [u8]) -> Result<Reading<'a>, ReadBad>
     requires { length text.now ≤ INPUT_MOST }
     ensures gives { Gives result (read_whole forms text.now) }
     ensures whole { IfOk result (λ r. IsSaid (said r) × (is_whole r.part ≡ true)) }
@@ -101,11 +101,11 @@ fn by_number(alloc: Global, places: &[Option<Value>]) -> Result<Vec<(u16, Value)
 }
 
 // the scenario and the choices of what is said
-fn parts(alloc: Global, reading: Reading) -> Result<(Scenario, Vec<Numbered>), AllocError>
+fn parts<'a>(alloc: Global, reading: Reading<'a>) -> Result<(Scenario, Vec<Numbered>), AllocError>
     requires said { IsSaid (said reading) }
     requires whole { is_whole reading.part ≡ true }
-    ensures scenario { IfOk result (λ r. r.0 ≡ scenario_of (said reading)) }
-    ensures choices { IfOk result (λ r. r.1.items ≡ (said reading).choices) }
+    ensures scenario { IfOk result (λ r. r.0 ≡ scenario_of (said reading.entry)) }
+    ensures choices { IfOk result (λ r. r.1.items ≡ (said reading.entry).choices) }
 {
     let Reading {
         part: _,
@@ -117,6 +117,7 @@ fn parts(alloc: Global, reading: Reading) -> Result<(Scenario, Vec<Numbered>), A
         work_b,
         plan,
         choices,
+        last_choice: _,
     } = reading;
     let records = by_number(alloc, &records)?;
     let settings = settled(format, &given);

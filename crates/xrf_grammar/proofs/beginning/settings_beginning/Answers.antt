@@ -1,12 +1,15 @@
 use Rattle.std.proofs.Common.{List, sym, subst}
 use Rattle.xrf_grammar.specs.declared.form.Form.{Form}
-use Rattle.xrf_setup.specs.declared.format.Format.{Format}
 use Rattle.xrf_grammar.specs.Grammar.{AreAmong}
 use Rattle.xrf_grammar.specs.Table.{settings_of}
+use Rattle.xrf_grammar.proofs.BeginningLaws.{record-among, clt-among}
 use Rattle.xrf_grammar.proofs.beginning.settings_beginning.Goals as goal
 
-pub returns-in-One : goal.returns-in-One
-returns-in-One c = subst (λ (f : Format). AreAmong c.settings_of_one.result.now (settings_of f)) (sym c.in-One.is) c.settings_of_one.ensures
+pub returns-then-eq : goal.returns-then-eq
+returns-then-eq c = record-among c.args.format
 
-pub returns-in-Two : goal.returns-in-Two
-returns-in-Two c = subst (λ (f : Format). AreAmong c.settings_of_two.result.now (settings_of f)) (sym c.in-Two.is) c.settings_of_two.ensures
+pub returns-then-eq-3 : goal.returns-then-eq-3
+returns-then-eq-3 c = clt-among c.args.format
+
+pub returns : goal.returns
+returns c = subst (λ (forms : List Form). AreAmong forms (settings_of c.args.format)) (sym c.settings.ensures) (λ form among. among)

@@ -1,10 +1,21 @@
-use Rattle.std.proofs.Common.{◌+◌, sym, ◌∙◌, ap, arith}
+use Rattle.std.proofs.Common.{◌+◌, sym, subst, ◌∙◌, ap, arith, rules}
 use Rattle.xrf_scenario.specs.Held.{said}
 use Rattle.xrf_scenario.specs.Lines.{text_lines}
 use Rattle.xrf_scenario.specs.Machine.{read_on}
+use Rattle.xrf_scenario.specs.Said.{IsSaid}
+use Rattle.xrf_scenario.specs.SoFar.{SoFar, nothing_said}
 use Rattle.xrf_scenario.proofs.HeldLaws.{goes-on}
 use Rattle.xrf_scenario.proofs.SaidLaws.{step-said}
 use Rattle.xrf_scenario.proofs.text.read_lines.Goals as goal
+
+pub lines-init : goal.lines-init
+lines-init c =
+    let none : IsSaid nothing_said = search rules in
+    record {
+      whole = ap (λ (so : SoFar). read_on c.args.forms so 0 (text_lines c.args.text.now)) c.in_ok-reading.ensures;
+      in_range = subst IsSaid (sym c.in_ok-reading.ensures) none;
+      few = omega arith;
+    }
 
 pub lines-preserved : goal.lines-preserved
 lines-preserved c = record {

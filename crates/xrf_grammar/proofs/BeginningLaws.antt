@@ -1,17 +1,15 @@
 -- The forms of a table that begin with a word are among those of the table.
-use Rattle.std.proofs.Common.{◌≡◌, ◌⊎◌, inl, inr, ℕ, List, [], ◌∷◌, Option, Some, None, Bool, true, false, if◌then◌else◌, refl}
-use Rattle.std.specs.Prelude.{codes}
+use Rattle.std.proofs.Common.{◌≡◌, ◌⊎◌, inl, inr, ℕ, List, [], ◌∷◌, Option, Some, None, Bool, true, false, if◌then◌else◌, refl, subst}
 use Rattle.std.specs.Str.{bytes_eq}
 use Rattle.xrf_grammar.specs.declared.form.Form.{Form}
-use Rattle.xrf_grammar.specs.declared.form.Form.TheVariants as form
 use Rattle.xrf_setup.specs.declared.format.Format.{Format}
-use Rattle.xrf_setup.specs.declared.format.Format.TheVariants.{One, Two}
 use Rattle.xrf_grammar.specs.declared.form.Part.{Part}
 use Rattle.xrf_grammar.specs.declared.keyword.Keyword.{Keyword as Word}
 use Rattle.xrf_grammar.specs.Keywords.{keyword_text}
 use Rattle.xrf_grammar.specs.Fitting.{keyword_of}
 use Rattle.xrf_grammar.specs.Grammar.{IsAmong, AreAmong}
-use Rattle.xrf_grammar.specs.Table.{parts_of, settings_of}
+use Rattle.xrf_grammar.specs.Table.{parts_of, settings_of, settings_of_two, is_of_two}
+use Rattle.xrf_grammar.proofs.Listed.{at_place, in_both}
 
 abbrev pub begins_by : Option Word → List ℕ → Bool
 begins_by None word = false
@@ -36,11 +34,11 @@ begun-among word (first ∷ forms) form among = by (begins (parts_of first) word
     by true rest (inr later) = inr (rest later)
     by false rest later = inr (rest later)
 
--- The forms of a record and of the command list are among those of each format.
-pub record-among : (format : Format) → AreAmong (form.Record ∷ []) (settings_of format)
-record-among One = begun-among (codes "RECORD") (settings_of One)
-record-among Two = begun-among (codes "RECORD") (settings_of Two)
+-- One form that stands in the table is among its forms.
+pub one-among : (one : Form) (all : List Form) → IsAmong one all → AreAmong (one ∷ []) all
+one-among one all among form (inl same) = subst (λ (f : Form). IsAmong f all) same among
+one-among one all among form (inr none) = absurd none
 
-pub clt-among : (format : Format) → AreAmong (form.CltCancel ∷ form.CltCommand ∷ form.CltWto ∷ []) (settings_of format)
-clt-among One = begun-among (codes "CLT") (settings_of One)
-clt-among Two = begun-among (codes "CLT") (settings_of Two)
+-- A form of both formats, by its place in the table.
+pub both-among : (format : Format) (place : ℕ) (one : Form) → at_place place settings_of_two ≡ Some one → is_of_two one ≡ false → AreAmong (one ∷ []) (settings_of format)
+both-among format place one at both = one-among one (settings_of format) (in_both format place one at both)

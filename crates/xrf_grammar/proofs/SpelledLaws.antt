@@ -25,16 +25,20 @@ pub of_rest : (part : Part) (parts : List Part) (word : List ℕ) (ws : List (Li
 of_rest part parts word ws all = subst (λ (b : Bool). Unless b (IsOfPart part word × AreOfForm parts ws)) (sym all) tt
 
 -- the words are of the first form
-pub spelled_here : (form : Form) (more : List Form) (ws : List (List ℕ)) (r : Option Line) → AreOfForm (parts_of form) ws → r ≡ said form ws
-    → IfSome r (λ says. Spells (form ∷ more) ws says)
-spelled_here form more ws None fit e = tt
-spelled_here form more ws (Some says) fit e = record { form = form; among = inl refl; fit = fit; line = sym e }
+pub found_here : (form : Form) (more : List Form) (ws : List (List ℕ)) → AreOfForm (parts_of form) ws → IsAmong form (form ∷ more) × AreOfForm (parts_of form) ws
+found_here form more ws fit = (inl refl, fit)
 
 -- they are of a later form
-pub spelled_later : (form : Form) (more : List Form) (ws : List (List ℕ)) (r : Option Line) → IfSome r (λ says. Spells more ws says)
-    → IfSome r (λ says. Spells (form ∷ more) ws says)
-spelled_later form more ws None s = tt
-spelled_later form more ws (Some says) s = record { form = s.form; among = inr s.among; fit = s.fit; line = s.line }
+pub found_later : (form : Form) (more : List Form) (ws : List (List ℕ)) (r : Option Form) → IfSome r (λ f. IsAmong f more × AreOfForm (parts_of f) ws)
+    → IfSome r (λ f. IsAmong f (form ∷ more) × AreOfForm (parts_of f) ws)
+found_later form more ws None s = tt
+found_later form more ws (Some f) s = (inr s.0, s.1)
+
+-- what the words of a form say is spelled by it
+pub spelled_by : (form : Form) (forms : List Form) (ws : List (List ℕ)) (r : Option Line) → IsAmong form forms → AreOfForm (parts_of form) ws → r ≡ said form ws
+    → IfSome r (λ says. Spells forms ws says)
+spelled_by form forms ws None among fit e = tt
+spelled_by form forms ws (Some says) among fit e = record { form = form; among = among; fit = fit; line = sym e }
 
 by-table : (forms all : List Form) (ws : List (List ℕ)) (says : Line) → AreAmong forms all → Spells forms ws says → Spells all ws says
 by-table forms all ws says among s = record { form = s.form; among = among s.form s.among; fit = s.fit; line = s.line }

@@ -5,6 +5,7 @@ ghost use Rattle.xrf_grammar.specs.Table.{settings_of, choices_table};
 
 use crate::form::{ChoiceForm, Form, ItemForm};
 use crate::table::settings;
+use crate::word::{first, third};
 use xrf_base::Takeovr;
 use xrf_cebt::Cebt;
 use xrf_exit::ExitAnswer;
@@ -119,28 +120,47 @@ macro_rules! work {
     };
 }
 
-fn work_beginning(format: Format) -> &'static [Form]
+/// The forms of a line of work whose item begins with a word.
+fn work_beginning(format: Format, item: &[u8]) -> &'static [Form]
     ensures { AreAmong result.now (settings_of format) }
 {
+    if item == b"PUT".as_slice() {
+        return &[Form::Work(ItemForm::Put)];
+    }
     match format {
         Format::One => work!(),
         Format::Two => work!(Signon Signoff),
     }
 }
 
-/// The forms between the header and the line CHOICES that begin with a word; each is one of them.
-/// Where the word stands at the head of a single form, these are all forms.
-pub(crate) fn settings_beginning(format: Format, word: &[u8]) -> &'static [Form]
+/// The forms of a line of the command list of this kind.
+fn clt_beginning(format: Format, kind: &[u8]) -> &'static [Form]
     ensures { AreAmong result.now (settings_of format) }
 {
+    if kind == b"WTO".as_slice() {
+        return &[Form::CltWto];
+    }
+    if kind == b"COMMAND".as_slice() {
+        return &[Form::CltCommand];
+    }
+    &[Form::CltCancel]
+}
+
+/// The forms between the header and the line CHOICES of which some words can be, by the first and
+/// the third; each is one of them. Where the first word stands at the head of a single form, these
+/// are all forms.
+pub(crate) fn settings_beginning(format: Format, words: &[&[u8]]) -> &'static [Form]
+    ensures { AreAmong result.now (settings_of format) }
+{
+    let word = first(words);
     if word == b"RECORD".as_slice() {
         return &[Form::Record];
     }
     if word == b"WORK".as_slice() {
-        return work_beginning(format);
+        return work_beginning(format, third(words));
     }
     if word == b"CLT".as_slice() {
-        return &[Form::CltCancel, Form::CltCommand, Form::CltWto];
+        return clt_beginning(format, third(words));
     }
     settings(format)
 }

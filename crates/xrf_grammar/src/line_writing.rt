@@ -31,6 +31,7 @@ fn mode_word(mode: Takeovr) -> &'static [u8]
 }
 
 // a word with its blank, and a number
+#[inline(always)]
 fn put_setting(alloc: Global, out: &mut Vec<u8>, word: &[u8], number: u16) -> Result<(), AllocError>
     ensures { OnOk result (out.new.items ≡ out.old.items ++ word.now ++ decimal number) }
 {

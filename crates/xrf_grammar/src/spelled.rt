@@ -3,9 +3,9 @@
 ghost use Rattle.std.specs.Prelude.{◌≡◌, IfSome, IsTrue, Ok};
 ghost use Rattle.xrf_text.specs.Text.{words, texts};
 ghost use Rattle.xrf_grammar.specs.Fitting.{takes_all};
-ghost use Rattle.xrf_grammar.specs.Grammar.{IsOfPart, AreOfForm, Spells};
+ghost use Rattle.xrf_grammar.specs.Grammar.{IsOfPart, IsAmong, AreOfForm, Spells};
 ghost use Rattle.xrf_grammar.specs.Reading.{line_of};
-ghost use Rattle.xrf_grammar.specs.Table.{settings_of, choices_table};
+ghost use Rattle.xrf_grammar.specs.Table.{parts_of, settings_of, choices_table};
 
 use crate::beginning::{choices_beginning, settings_beginning};
 use crate::fitting::fault_of_keyword;
@@ -58,18 +58,29 @@ fn are_of_form(parts: &[Part], line_words: &[&[u8]]) -> bool
     are_of_form(later, rest)
 }
 
-/// The line that some words spell by the first of these forms that they are of.
-#[tactic(auto, using(crate::proofs::SpelledLaws::spelled_here, crate::proofs::SpelledLaws::spelled_later))]
-fn spelled(forms: &[Form], line_words: &[&[u8]]) -> Option<Line>
-    ensures { IfSome result (λ says. Spells forms.now (texts line_words.now) says) }
+/// The first of these forms that some words are of.
+#[tactic(auto, using(crate::proofs::SpelledLaws::found_here, crate::proofs::SpelledLaws::found_later))]
+fn form_of(forms: &[Form], line_words: &[&[u8]]) -> Option<Form>
+    ensures { IfSome result (λ form. IsAmong form forms.now × AreOfForm (parts_of form) (texts line_words.now)) }
 {
     let [form, more @ ..] = forms else {
         return None;
     };
     if are_of_form(form.parts(), line_words) {
-        return say(*form, line_words);
+        return Some(*form);
     }
-    spelled(more, line_words)
+    form_of(more, line_words)
+}
+
+/// The line that some words spell by the first of these forms that they are of.
+#[tactic(auto, using(crate::proofs::SpelledLaws::spelled_by))]
+fn spelled(forms: &[Form], line_words: &[&[u8]]) -> Option<Line>
+    ensures { IfSome result (λ says. Spells forms.now (texts line_words.now) says) }
+{
+    match form_of(forms, line_words) {
+        Some(form) => say(form, line_words),
+        None => None,
+    }
 }
 
 /// What a line before the choices says, where it is found by its first word.
@@ -77,7 +88,7 @@ pub(crate) fn setting_by_first_word(format: Format, line: &[u8]) -> Option<Line>
     ensures { IfSome result (λ says. Ok says ≡ line_of (settings_of format) (words line.now)) }
 {
     let words = LineWords::split(line)?;
-    let forms = settings_beginning(format, first(words.as_slice()));
+    let forms = settings_beginning(format, words.as_slice());
     spelled(forms, words.as_slice())
 }
 

@@ -32,6 +32,7 @@ pub(crate) fn put_text(out: &mut Vec<u8>, text: &[u8]) -> Result<(), AllocError>
 }
 
 // the digit of a number below 10
+#[inline(always)]
 fn put_digit(out: &mut Vec<u8>, number: u64) -> Result<(), AllocError>
     requires { number < 10 }
     ensures { OnOk result (out.new.items ≡ out.old.items ++ (48 + number) ∷ []) }
@@ -63,6 +64,7 @@ fn digit(number: u8) -> u8
     }
 }
 
+#[inline(never)]
 fn put_hex(out: &mut Vec<u8>, bytes: &[u8]) -> Result<(), AllocError>
     ensures { OnOk result (out.new.items ≡ out.old.items ++ hex_text bytes.now) }
 {
@@ -83,15 +85,72 @@ fn put_piece(out: &mut Vec<u8>, piece: &Piece) -> Result<(), AllocError>
     }
 }
 
-/// Appends the pieces to a text.
-#[inline(always)]
-pub fn put(alloc: Global, out: &mut Vec<u8>, pieces: &[Piece]) -> Result<(), AllocError>
+// the pieces one after the other, where there are many
+fn put_many(out: &mut Vec<u8>, pieces: &[Piece]) -> Result<(), AllocError>
     ensures { OnOk result (out.new.items ≡ out.old.items ++ pieces_text pieces.now) }
 {
     for piece in pieces {
         put_piece(out, piece)?;
     }
     Ok(())
+}
+
+// The first pieces are written in a row, with no loop: where a call is inlined, each is then a few
+// moves of known lengths.
+#[inline(always)]
+fn put_fifth(out: &mut Vec<u8>, pieces: &[Piece]) -> Result<(), AllocError>
+    ensures { OnOk result (out.new.items ≡ out.old.items ++ pieces_text pieces.now) }
+{
+    let [piece, more @ ..] = pieces else {
+        return Ok(());
+    };
+    put_piece(out, piece)?;
+    put_many(out, more)
+}
+
+#[inline(always)]
+fn put_fourth(out: &mut Vec<u8>, pieces: &[Piece]) -> Result<(), AllocError>
+    ensures { OnOk result (out.new.items ≡ out.old.items ++ pieces_text pieces.now) }
+{
+    let [piece, more @ ..] = pieces else {
+        return Ok(());
+    };
+    put_piece(out, piece)?;
+    put_fifth(out, more)
+}
+
+#[inline(always)]
+fn put_third(out: &mut Vec<u8>, pieces: &[Piece]) -> Result<(), AllocError>
+    ensures { OnOk result (out.new.items ≡ out.old.items ++ pieces_text pieces.now) }
+{
+    let [piece, more @ ..] = pieces else {
+        return Ok(());
+    };
+    put_piece(out, piece)?;
+    put_fourth(out, more)
+}
+
+#[inline(always)]
+fn put_second(out: &mut Vec<u8>, pieces: &[Piece]) -> Result<(), AllocError>
+    ensures { OnOk result (out.new.items ≡ out.old.items ++ pieces_text pieces.now) }
+{
+    let [piece, more @ ..] = pieces else {
+        return Ok(());
+    };
+    put_piece(out, piece)?;
+    put_third(out, more)
+}
+
+/// Appends the pieces to a text.
+#[inline(always)]
+pub fn put(alloc: Global, out: &mut Vec<u8>, pieces: &[Piece]) -> Result<(), AllocError>
+    ensures { OnOk result (out.new.items ≡ out.old.items ++ pieces_text pieces.now) }
+{
+    let [piece, more @ ..] = pieces else {
+        return Ok(());
+    };
+    put_piece(out, piece)?;
+    put_second(out, more)
 }
 
 /// The word of a site.
@@ -115,6 +174,7 @@ fn answer_word(answer: ExitAnswer) -> &'static [u8]
 }
 
 // a word, a site and what stands behind it
+#[inline(always)]
 pub(crate) fn put_of_site<'a>(
     alloc: Global,
     out: &mut Vec<u8>,
@@ -210,6 +270,7 @@ pub fn put_choice(alloc: Global, out: &mut Vec<u8>, choice: &Choice) -> Result<(
     }
 }
 
+#[inline(always)]
 pub(crate) fn put_named<'a>(
     alloc: Global,
     out: &mut Vec<u8>,

@@ -1,0 +1,12 @@
+pub mod Words
+pub mod Records
+pub mod Messages
+pub mod Logged
+pub mod Decisions
+pub mod Acts
+pub mod Entries
+pub mod Fits
+pub mod Answers
+pub mod Terminals
+pub mod Files
+pub mod Images

@@ -1,0 +1,13 @@
+//! The document of a run of a pair: the canonical scenario, its choices, and the report.
+#![tactic(auto)]
+
+mod acts;
+mod answers;
+mod decisions;
+mod entries;
+mod files;
+mod logged;
+mod messages;
+mod records;
+mod terminals;
+mod words;

@@ -5,3 +5,4 @@ pub mod Lines
 pub mod ActLaws
 pub mod ScenarioSize
 pub mod RowLaws
+pub mod ImageLaws

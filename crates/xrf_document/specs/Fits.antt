@@ -1,7 +1,7 @@
 -- What a line of the report may hold: numbers of 32 bits, names, values, and lines of the command list.
-use Rattle.std.specs.Prelude.{ℕ, ◌<◌, ◌^◌, List, Option, IfSome}
+use Rattle.std.specs.Prelude.{ℕ, zero, suc, ◌<◌, ◌^◌, List, Option, IfSome}
 use Rattle.xrf_base.specs.Names.{IsName}
-use Rattle.xrf_base.specs.Values.{IsValue}
+use Rattle.xrf_base.specs.Values.{IsValue, slot_reading}
 use Rattle.xrf_base.specs.declared.items.ItemAnswer.{ItemAnswer}
 use Rattle.xrf_base.specs.declared.items.ItemAnswer.TheVariants.{Got}
 use Rattle.xrf_base.specs.declared.items.UnitId.{UnitId}
@@ -105,3 +105,8 @@ RowFits row = IsName row.term × Is32 row.class × UserFits row.user
 -- the value of a record in a slot of the file
 abbrev pub HeldFits : Option (Option (List ℕ)) → Type 0
 HeldFits held = IfSome held (λ (place : Option (List ℕ)). IfSome place IsValue)
+
+-- those in the first so many slots, which are numbered from 1
+abbrev pub RecordsFit : (ℕ → List ℕ) → ℕ → Type 0
+RecordsFit slot zero = Unit {0}
+RecordsFit slot (suc count) = RecordsFit slot count × HeldFits (slot_reading (slot (suc count)))

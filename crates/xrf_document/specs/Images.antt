@@ -1,5 +1,5 @@
 -- The lines of the images of data sets: each 32 bytes that are not all zero, at their offset.
-use Rattle.std.specs.Prelude.{ℕ, zero, suc, ◌+◌, ◌*◌, ◌==◌, Bool, List, [], ◌++◌, codes, Option, Some, None, take, drop, if◌then◌else◌}
+use Rattle.std.specs.Prelude.{ℕ, zero, suc, ◌+◌, ◌*◌, ◌/◌, ◌==◌, Bool, List, [], ◌++◌, length, codes, Option, Some, None, take, drop, if◌then◌else◌}
 use Rattle.std.specs.Fmt.{decimal}
 use Rattle.std.specs.List.{list_all}
 use Rattle.xrf_base.specs.declared.site.Site.TheVariants.{A, B}
@@ -26,6 +26,10 @@ image_line name at bytes = if is_zero bytes then [] else line (codes "IMAGE " ++
 abbrev pub pieces_text : List ℕ → List ℕ → ℕ → List ℕ
 pieces_text name bytes zero = []
 pieces_text name bytes (suc count) = pieces_text name bytes count ++ image_line name (32 * count) (part bytes (32 * count) 32)
+
+-- all pieces of a data set
+abbrev pub all_pieces : List ℕ → List ℕ → List ℕ
+all_pieces name bytes = pieces_text name bytes (length bytes / 32)
 
 -- the two pieces of a slot, and the first so many slots, from an offset on
 abbrev pub slot_lines : List ℕ → (at : ℕ) → List ℕ → List ℕ
@@ -56,8 +60,8 @@ msg_signals t = sector_bytes (sector2 t A) ++ sector_bytes (sector2 t B)
 -- The log has LOG slots, the file FILE records, and KEY two slots.
 abbrev pub images_text : Scen → List Entry → List ℕ
 images_text s t =
-    pieces_text (codes "CTL") (ctl_bytes t) 12
-    ++ pieces_text (codes "MSG") (msg_signals t) 4
+    all_pieces (codes "CTL") (ctl_bytes t)
+    ++ all_pieces (codes "MSG") (msg_signals t)
     ++ slots_text (codes "MSG") 128 (message_slot t) s.settings.ring
     ++ slots_text (codes "LOG") 0 (log_slot s t) s.settings.log
     ++ records_text (image s t) s.settings.file

@@ -1,15 +1,18 @@
 //! How the records of the file are written.
 
-ghost use Rattle.std.specs.Prelude.{◌≡◌, ◌++◌, OnOk};
+ghost use Rattle.std.specs.Prelude.{◌≡◌, ◌≤◌, ◌*◌, ◌++◌, ℕ, List, OnOk, length};
+ghost use Rattle.xrf_devices.specs.Standing.{FileIs};
 ghost use Rattle.xrf_base.specs.Values.{slot_reading};
-ghost use Rattle.xrf_document.specs.Files.{slot_line};
-ghost use Rattle.xrf_document.specs.Fits.{HeldFits};
+ghost use Rattle.xrf_document.specs.Files.{slot_line, file_text};
+ghost use Rattle.xrf_document.specs.Fits.{HeldFits, RecordsFit};
 
+use crate::images::piece_at;
 use crate::words::digits;
 use Piece::Text;
 use std::alloc::{AllocError, Global};
 use xrf_base::Value;
 use xrf_base::values::slot_read;
+use xrf_gated::Extent;
 use xrf_grammar::writing::{Piece, put};
 
 fn put_held(
@@ -42,8 +45,7 @@ fn put_held(
     }
 }
 
-/// Appends the line of a slot of the file, by its record number: none where it is empty.
-pub(crate) fn put_slot_line(
+fn put_slot_line(
     alloc: Global,
     out: &mut Vec<u8>,
     number: u32,
@@ -53,4 +55,21 @@ pub(crate) fn put_slot_line(
     ensures fits { OnOk result (HeldFits (slot_reading slot.now)) }
 {
     put_held(alloc, out, number, &slot_read(slot))
+}
+
+/// Appends the lines of the first so many slots of the file, by their record numbers.
+pub(crate) fn put_file(
+    alloc: Global,
+    out: &mut Vec<u8>,
+    file: &Extent,
+    count: u16,
+) -> Result<(), AllocError>
+    requires { 32 * count ≤ length file.now }
+    ensures text { (image : ℕ → List ℕ) → FileIs count file.now image → OnOk result (out.new.items ≡ out.old.items ++ file_text image count) }
+    ensures fits { (image : ℕ → List ℕ) → FileIs count file.now image → OnOk result (RecordsFit image count) }
+{
+    for k in 0..count as u32 {
+        put_slot_line(alloc, out, k + 1, &piece_at(file, k))?;
+    }
+    Ok(())
 }

@@ -6,6 +6,7 @@ mod answers;
 mod decisions;
 mod entries;
 mod files;
+mod images;
 mod logged;
 mod messages;
 mod records;

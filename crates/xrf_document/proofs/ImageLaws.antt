@@ -15,7 +15,7 @@ use Rattle.xrf_trace.specs.Scenario.{Scen}
 use Rattle.xrf_trace.specs.declared.entry.Entry.{Entry}
 use Rattle.xrf_base.specs.Values.{slot_reading}
 use Rattle.xrf_document.specs.Files.{slot_line, file_text}
-use Rattle.xrf_document.specs.Fits.{HeldFits, RecordsFit}
+use Rattle.xrf_document.specs.Fits.{HeldFits, RecordsFit, SlotsFit, PiecesFit}
 use Rattle.xrf_document.specs.Images.{sector_bytes, ctl_bytes, msg_signals, image_line, pieces_text, slot_lines, slots_text, records_text}
 
 -- a list is two parts of it, one behind the other
@@ -89,3 +89,9 @@ file_more image k =
 
 pub fits_more : (image : ℕ → List ℕ) (k : ℕ) → RecordsFit image k → HeldFits (slot_reading (image (k + 1))) → RecordsFit image (k + 1)
 fits_more image k before next = subst (λ (n : ℕ). HeldFits (slot_reading (image n)) → RecordsFit image n) (next-is k) (λ own. (before, own)) next
+
+pub slots_fit : (slot : ℕ → Slot) (k : ℕ) → SlotsFit slot k → length (bytes_of (slot k)) ≡ 64 → SlotsFit slot (k + 1)
+slots_fit slot k before next = subst (λ (n : ℕ). SlotsFit slot n) (next-is k) (before, next)
+
+pub pieces_fit : (image : ℕ → List ℕ) (k : ℕ) → PiecesFit image k → length (image (k + 1)) ≡ 32 → PiecesFit image (k + 1)
+pieces_fit image k before next = subst (λ (n : ℕ). length (image n) ≡ 32 → PiecesFit image n) (next-is k) (λ own. (before, own)) next

@@ -6,3 +6,5 @@ pub mod ActLaws
 pub mod ScenarioSize
 pub mod RowLaws
 pub mod ImageLaws
+pub mod StandingLaws
+pub mod ImagesTold

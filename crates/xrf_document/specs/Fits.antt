@@ -1,5 +1,5 @@
 -- What a line of the report may hold: numbers of 32 bits, names, values, and lines of the command list.
-use Rattle.std.specs.Prelude.{ℕ, zero, suc, ◌<◌, ◌^◌, List, Option, IfSome}
+use Rattle.std.specs.Prelude.{◌≡◌, ℕ, zero, suc, length, ◌<◌, ◌^◌, List, Option, IfSome}
 use Rattle.xrf_base.specs.Names.{IsName}
 use Rattle.xrf_base.specs.Values.{IsValue, slot_reading}
 use Rattle.xrf_base.specs.declared.items.ItemAnswer.{ItemAnswer}
@@ -11,6 +11,8 @@ use Rattle.xrf_cavm.specs.declared.decisions.Decided.{Decided}
 use Rattle.xrf_cavm.specs.declared.decisions.Decided.TheVariants.{Owner}
 use Rattle.xrf_ctl.specs.Control.{IsControl}
 use Rattle.xrf_ctl.specs.Signal.{SignalRecord}
+use Rattle.xrf_gated.specs.Slots.{bytes_of}
+use Rattle.xrf_gated.specs.declared.gated.Slot.{Slot}
 use Rattle.xrf_history.specs.declared.want.EndWhy.{EndWhy}
 use Rattle.xrf_history.specs.declared.want.EndWhy.TheVariants.{Refused}
 use Rattle.xrf_logrec.specs.declared.keypoints.Keypoint.{Keypoint}
@@ -18,6 +20,8 @@ use Rattle.xrf_logrec.specs.declared.records.LogRec.{LogRec}
 use Rattle.xrf_logrec.specs.declared.records.LogRec.TheVariants.{Put, Commit, Backout}
 use Rattle.xrf_msg.specs.declared.messages.Message.{Message}
 use Rattle.xrf_msg.specs.declared.messages.Message.TheVariants.{Begin, Term, End, User}
+use Rattle.xrf_setup.specs.Scenario.{Scen}
+use Rattle.xrf_trace.specs.Devices.{message_slot, log_slot, key_slot, image}
 use Rattle.xrf_terms.specs.declared.rows.Row.{Row}
 use Rattle.xrf_trace.specs.declared.entry.Act.{Act}
 use Rattle.xrf_trace.specs.declared.entry.Act.TheVariants as act
@@ -101,6 +105,22 @@ AnswerFits _ = Unit {0}
 
 abbrev pub RowFits : Row → Type 0
 RowFits row = IsName row.term × Is32 row.class × UserFits row.user
+
+-- The first so many slots of a data set have 64 bytes each, and the first so many of the file, which are numbered from 1,
+-- have 32.
+abbrev pub SlotsFit : (ℕ → Slot) → ℕ → Type 0
+SlotsFit slot zero = Unit {0}
+SlotsFit slot (suc count) = SlotsFit slot count × (length (bytes_of (slot count)) ≡ 64)
+
+abbrev pub PiecesFit : (ℕ → List ℕ) → ℕ → Type 0
+PiecesFit image zero = Unit {0}
+PiecesFit image (suc count) = PiecesFit image count × (length (image (suc count)) ≡ 32)
+
+pub record ImagesFit (s : Scen) (t : List Entry) : Type 0 where
+  pub messages : SlotsFit (message_slot t) s.settings.ring
+  pub log : SlotsFit (log_slot s t) s.settings.log
+  pub file : PiecesFit (image s t) s.settings.file
+  pub key : SlotsFit (key_slot t) 2
 
 -- the value of a record in a slot of the file
 abbrev pub HeldFits : Option (Option (List ℕ)) → Type 0

@@ -10,3 +10,4 @@ pub mod Answers
 pub mod Terminals
 pub mod Files
 pub mod Images
+pub mod Standing

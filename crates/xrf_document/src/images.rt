@@ -3,6 +3,7 @@
 ghost use Rattle.std.specs.Prelude.{◌≡◌, ◌≤◌, ◌<◌, ◌+◌, ◌*◌, ◌^◌, ◌++◌, ℕ, List, OnOk, length, codes, take, drop};
 ghost use Rattle.xrf_devices.specs.Standing.{SlotsAre, FileIs, StandsFor};
 ghost use Rattle.xrf_document.specs.Images.{is_zero, image_line, pieces_text, all_pieces, ctl_bytes, msg_signals, slot_lines, slots_text, records_text, images_text};
+ghost use Rattle.xrf_document.specs.Fits.{SlotsFit, PiecesFit, ImagesFit};
 ghost use Rattle.xrf_gated.specs.Landing.{part};
 ghost use Rattle.xrf_gated.specs.declared.gated.Slot.{Slot};
 ghost use Rattle.xrf_setup.specs.Scenario.{Scen};
@@ -25,7 +26,8 @@ fn is_zero(bytes: &[u8]) -> bool
 /// A piece of an extent, 32 bytes, by its place from 0.
 pub(crate) fn piece_at(extent: &Extent, k: u32) -> [u8; 32]
     requires { 32 * k + 32 ≤ length extent.now }
-    ensures { result ≡ part extent.now (32 * k) 32 }
+    ensures bytes { result ≡ part extent.now (32 * k) 32 }
+    ensures size { length result ≡ 32 }
 {
     let mut piece = [0; 32];
     extent.read(32 * k as usize, &mut piece);
@@ -101,7 +103,8 @@ fn put_slot(
     bytes: &[u8; 64],
 ) -> Result<(), AllocError>
     requires { at ≤ 1000000 }
-    ensures { OnOk result (out.new.items ≡ out.old.items ++ slot_lines name.now at bytes.now) }
+    ensures text { OnOk result (out.new.items ≡ out.old.items ++ slot_lines name.now at bytes.now) }
+    ensures size { length bytes.now ≡ 64 }
 {
     let (first, second) = bytes.split_at(32);
     put_image_line(alloc, out, name, at, first)?;
@@ -120,7 +123,8 @@ fn put_slots<B: BodyRule>(
     requires within { count ≤ length slots.now }
     requires few { count ≤ 2000 }
     requires low { at ≤ 200 }
-    ensures { (slot : ℕ → Slot) → SlotsAre slots.now slot → OnOk result (out.new.items ≡ out.old.items ++ slots_text name.now at slot count) }
+    ensures text { (slot : ℕ → Slot) → SlotsAre slots.now slot → OnOk result (out.new.items ≡ out.old.items ++ slots_text name.now at slot count) }
+    ensures fits { (slot : ℕ → Slot) → SlotsAre slots.now slot → OnOk result (SlotsFit slot count) }
 {
     for k in 0..count {
         put_slot(alloc, out, name, at + 64 * k, &slots.slot(k as usize))?;
@@ -137,7 +141,8 @@ fn put_records(
 ) -> Result<(), AllocError>
     requires within { 32 * count ≤ length file.now }
     requires few { count ≤ 1000 }
-    ensures { (image : ℕ → List ℕ) → FileIs count file.now image → OnOk result (out.new.items ≡ out.old.items ++ records_text image count) }
+    ensures text { (image : ℕ → List ℕ) → FileIs count file.now image → OnOk result (out.new.items ≡ out.old.items ++ records_text image count) }
+    ensures fits { (image : ℕ → List ℕ) → FileIs count file.now image → OnOk result (PiecesFit image count) }
 {
     for k in 0..count {
         put_image_line(alloc, out, b"FILE", 32 * k, &piece_at(file, k))?;
@@ -145,22 +150,14 @@ fn put_records(
     Ok(())
 }
 
-fn put_control_images(
-    alloc: Global,
-    out: &mut Vec<u8>,
-    sets: &DataSets,
-) -> Result<(), AllocError>
+fn put_control_images(alloc: Global, out: &mut Vec<u8>, sets: &DataSets) -> Result<(), AllocError>
     requires { (s : Scen) × (t : List Entry) × StandsFor sets.now s t }
     ensures { (s : Scen) (t : List Entry) → StandsFor sets.now s t → OnOk result (out.new.items ≡ out.old.items ++ all_pieces (codes "CTL") (ctl_bytes t)) }
 {
     put_extent(alloc, out, b"CTL", &sets.ctl, 12)
 }
 
-fn put_signal_images(
-    alloc: Global,
-    out: &mut Vec<u8>,
-    sets: &DataSets,
-) -> Result<(), AllocError>
+fn put_signal_images(alloc: Global, out: &mut Vec<u8>, sets: &DataSets) -> Result<(), AllocError>
     requires { (s : Scen) × (t : List Entry) × StandsFor sets.now s t }
     ensures { (s : Scen) (t : List Entry) → StandsFor sets.now s t → OnOk result (out.new.items ≡ out.old.items ++ all_pieces (codes "MSG") (msg_signals t)) }
 {
@@ -175,7 +172,8 @@ pub(crate) fn put_images(
     sets: &DataSets,
 ) -> Result<(), AllocError>
     requires { (t : List Entry) × StandsFor sets.now scenario.now t }
-    ensures { (t : List Entry) → StandsFor sets.now scenario.now t → OnOk result (out.new.items ≡ out.old.items ++ images_text scenario.now t) }
+    ensures text { (t : List Entry) → StandsFor sets.now scenario.now t → OnOk result (out.new.items ≡ out.old.items ++ images_text scenario.now t) }
+    ensures fits { (t : List Entry) → StandsFor sets.now scenario.now t → OnOk result (ImagesFit scenario.now t) }
 {
     put_control_images(alloc, out, sets)?;
     put_signal_images(alloc, out, sets)?;

@@ -10,5 +10,8 @@ mod images;
 mod logged;
 mod messages;
 mod records;
+mod standing;
 mod terminals;
+#[cfg(test)]
+mod tests;
 mod words;

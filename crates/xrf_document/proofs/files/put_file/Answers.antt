@@ -12,10 +12,10 @@ loop-k-preserved c = record {
       grown _ _ _
       (c.in_ok-put_slot_line.ensures.text
       ∙ ap (λ (bytes : List ℕ). c.loop-k.out.items ++ slot_line (c.loop-k.k + 1) (slot_reading bytes))
-      (c.piece_at.ensures ∙ record_at c.args.count c.args.file.now image c.loop-k.k is c.loop-k-test.true))
+      (c.piece_at.ensures.bytes ∙ record_at c.args.count c.args.file.now image c.loop-k.k is c.loop-k-test.true))
       (c.loop-k.invariant.whole image is) (file_more image c.loop-k.k);
   fits = λ image is.
       fits_more image c.loop-k.k (c.loop-k.invariant.fits image is)
       (subst (λ (bytes : List ℕ). HeldFits (slot_reading bytes))
-      (c.piece_at.ensures ∙ record_at c.args.count c.args.file.now image c.loop-k.k is c.loop-k-test.true) c.in_ok-put_slot_line.ensures.fits);
+      (c.piece_at.ensures.bytes ∙ record_at c.args.count c.args.file.now image c.loop-k.k is c.loop-k-test.true) c.in_ok-put_slot_line.ensures.fits);
 }

@@ -1,6 +1,7 @@
 use Rattle.std.proofs.Common.{◌≡◌, ◌++◌, ℕ}
 use Rattle.xrf_gated.specs.declared.gated.Slot.{Slot}
 use Rattle.xrf_devices.specs.Standing.{SlotsAre}
+use Rattle.xrf_document.specs.Fits.{SlotsFit}
 use Rattle.xrf_document.specs.Images.{slots_text}
 use Rattle.xrf_document.proofs.images.put_slots.Given as goal
 
@@ -8,4 +9,5 @@ use Rattle.xrf_document.proofs.images.put_slots.Given as goal
 abbrev pub invariant-loop-k : goal.invariant-loop-k
 invariant-loop-k g l = record {
   whole : (slot : ℕ → Slot) → SlotsAre l.slots slot → l.out.items ≡ l.fn.out.items ++ slots_text l.name l.at slot l.k;
+  fits : (slot : ℕ → Slot) → SlotsAre l.slots slot → SlotsFit slot l.k;
 }

@@ -140,7 +140,8 @@ impl Active {
 
     /// A tick has passed.
     pub(crate) fn ticked(&mut self)
-        ensures { (h : List Event) → Stands self.old h → Stands self.new (Ticked ∷ h) }
+        ensures settings { self.new.settings ≡ self.old.settings }
+        ensures stands { (h : List Event) → Stands self.old h → Stands self.new (Ticked ∷ h) }
     {
         self.common.ticked();
     }

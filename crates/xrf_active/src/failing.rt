@@ -49,14 +49,16 @@ impl Active {
 
     // an act failed that it does not count
     pub(crate) fn quiet_failed(&mut self, on_message: bool)
-        ensures { (h : List Event) (tried : Act) (at : ℕ) → Stands self.old h → is_granted h ≡ true → IsQuiet tried on_message → Stands self.new (ActFailed tried at ∷ h) }
+        ensures settings { self.new.settings ≡ self.old.settings }
+        ensures stands { (h : List Event) (tried : Act) (at : ℕ) → Stands self.old h → is_granted h ≡ true → IsQuiet tried on_message → Stands self.new (ActFailed tried at ∷ h) }
     {
         self.fail(on_message);
     }
 
     // the read of a message slot failed
     pub(crate) fn slot_failed(&mut self)
-        ensures { (h : List Event) (place at : ℕ) → Stands self.old h → is_granted h ≡ true → Stands self.new (ActFailed (Act.MsgRead place) at ∷ h) }
+        ensures settings { self.new.settings ≡ self.old.settings }
+        ensures stands { (h : List Event) (place at : ℕ) → Stands self.old h → is_granted h ≡ true → Stands self.new (ActFailed (Act.MsgRead place) at ∷ h) }
     {
         self.fail(true);
         self.is_draining = false;
@@ -66,7 +68,8 @@ impl Active {
     #[tactic(auto, using(xrf_job::proofs::Counts::counts))]
     pub(crate) fn undo_failed(&mut self)
         requires { (h : List Event) × Stands self.old h × (length h < 16385) }
-        ensures { (h : List Event) (rrn : ℕ) (before : List ℕ) (at : ℕ) → Stands self.old h → is_granted h ≡ true → Stands self.new (ActFailed (Act.Undo rrn before) at ∷ h) }
+        ensures settings { self.new.settings ≡ self.old.settings }
+        ensures stands { (h : List Event) (rrn : ℕ) (before : List ℕ) (at : ℕ) → Stands self.old h → is_granted h ≡ true → Stands self.new (ActFailed (Act.Undo rrn before) at ∷ h) }
     {
         self.undone += 1;
         self.rolled += 1;
@@ -77,7 +80,8 @@ impl Active {
     #[tactic(auto, using(xrf_job::proofs::Counts::counts))]
     pub(crate) fn backout_failed(&mut self, rec: &LogRec)
         requires { (h : List Event) × Stands self.old h × (length h < 16385) }
-        ensures { (h : List Event) (place at : ℕ) → Stands self.old h → is_granted h ≡ true → is_restarted h ≡ false → AtHand self.old.settings h rec.now → Stands self.new (ActFailed (Act.LogOpen place rec.now) at ∷ h) }
+        ensures settings { self.new.settings ≡ self.old.settings }
+        ensures stands { (h : List Event) (place at : ℕ) → Stands self.old h → is_granted h ≡ true → is_restarted h ≡ false → AtHand self.old.settings h rec.now → Stands self.new (ActFailed (Act.LogOpen place rec.now) at ∷ h) }
     {
         self.opened += 1;
         self.fail(false);
@@ -87,7 +91,8 @@ impl Active {
     #[tactic(auto, using(xrf_job::proofs::Counts::counts, crate::proofs::Small::small_numbers))]
     pub(crate) fn record_failed(&mut self, rec: &LogRec)
         requires { (h : List Event) × Stands self.old h × (length h < 16385) × (is_restarted h ≡ true) × AtHand self.old.settings h rec.now }
-        ensures { (h : List Event) (place at : ℕ) → Stands self.old h → is_granted h ≡ true → is_restarted h ≡ true → AtHand self.old.settings h rec.now → Stands self.new (ActFailed (Act.LogOpen place rec.now) at ∷ h) }
+        ensures settings { self.new.settings ≡ self.old.settings }
+        ensures stands { (h : List Event) (place at : ℕ) → Stands self.old h → is_granted h ≡ true → is_restarted h ≡ true → AtHand self.old.settings h rec.now → Stands self.new (ActFailed (Act.LogOpen place rec.now) at ∷ h) }
     {
         self.opened += 1;
         count_record(&mut self.rooms.units, rec);
@@ -98,7 +103,8 @@ impl Active {
     #[tactic(auto, using(crate::proofs::Small::small_numbers))]
     pub(crate) fn key_failed(&mut self, keypoint: Keypoint)
         requires { (h : List Event) × Stands self.old h × (is_restarted h ≡ true) × (keypoint ≡ next_keypoint self.old.settings h) }
-        ensures { (h : List Event) (place at : ℕ) → Stands self.old h → is_granted h ≡ true → is_restarted h ≡ true → keypoint ≡ next_keypoint self.old.settings h → Stands self.new (ActFailed (Act.KpOpen place keypoint) at ∷ h) }
+        ensures settings { self.new.settings ≡ self.old.settings }
+        ensures stands { (h : List Event) (place at : ℕ) → Stands self.old h → is_granted h ≡ true → is_restarted h ≡ true → keypoint ≡ next_keypoint self.old.settings h → Stands self.new (ActFailed (Act.KpOpen place keypoint) at ∷ h) }
     {
         self.rooms.units.keyed(keypoint.start);
         self.keypoint = keypoint;
@@ -109,7 +115,8 @@ impl Active {
     #[tactic(auto, using(xrf_job::proofs::Counts::counts))]
     pub(crate) fn message_failed(&mut self, message: &Message)
         requires { (h : List Event) × Stands self.old h × (length h < 16385) }
-        ensures { (h : List Event) (place at : ℕ) → Stands self.old h → is_granted h ≡ true → Stands self.new (ActFailed (Act.MsgOpen place message.now) at ∷ h) }
+        ensures settings { self.new.settings ≡ self.old.settings }
+        ensures stands { (h : List Event) (place at : ℕ) → Stands self.old h → is_granted h ≡ true → Stands self.new (ActFailed (Act.MsgOpen place message.now) at ∷ h) }
     {
         if let Some(sending) = &mut self.sending {
             sending.sent(message);
@@ -119,7 +126,8 @@ impl Active {
 
     /// The region ends abnormally.
     pub(crate) fn abended(&mut self)
-        ensures { (h : List Event) → Stands self.old h → Stands self.new (Abended ∷ h) }
+        ensures settings { self.new.settings ≡ self.old.settings }
+        ensures stands { (h : List Event) → Stands self.old h → Stands self.new (Abended ∷ h) }
     {
         if self.sign_off.is_none() {
             self.sign_off = Some(OwnerState::OffAbend);
@@ -129,7 +137,8 @@ impl Active {
     /// The status exit answered.
     pub(crate) fn exited(&mut self, said: ExitAnswer, at: Tick)
         requires { (h : List Event) × Stands self.old h × (change h ≤ at) }
-        ensures { (h : List Event) → Stands self.old h → Stands self.new (Exited said at ∷ h) }
+        ensures settings { self.new.settings ≡ self.old.settings }
+        ensures stands { (h : List Event) → Stands self.old h → Stands self.new (Exited said at ∷ h) }
     {
         self.notice = None;
         match said {

@@ -153,6 +153,7 @@ impl Active {
     pub(crate) fn unit_item_given(&mut self, item: &Item) -> Option<ItemAnswer>
         requires item { IsUnitItem item.now }
         requires stands { (h : List Event) × Stands self.old h × (length h < 16385) × (is_restarted h ≡ true) }
+        ensures settings { self.new.settings ≡ self.old.settings }
         ensures stands { (h : List Event) → Stands self.old h → is_restarted h ≡ true → is_granted h ≡ true → Stands self.new (Given item.now ∷ h) }
         ensures answer { (h : List Event) → Stands self.old h → is_restarted h ≡ true → result ≡ item_answer self.old.settings (Given item.now ∷ h) }
     {
@@ -166,6 +167,7 @@ impl Active {
     /// It took an item on the terminals, or one that signs it off.
     pub(crate) fn terminal_item_given(&mut self, item: &Item) -> Option<ItemAnswer>
         requires item { IsUnitItem item.now → ⊥ }
+        ensures settings { self.new.settings ≡ self.old.settings }
         ensures stands { (h : List Event) → Stands self.old h → is_restarted h ≡ true → Stands self.new (Given item.now ∷ h) }
         ensures answer { (h : List Event) → Stands self.old h → is_restarted h ≡ true → result ≡ item_answer self.old.settings (Given item.now ∷ h) }
     {
@@ -183,6 +185,7 @@ impl Active {
     /// It took an item.
     pub(crate) fn given(&mut self, item: &Item) -> Option<ItemAnswer>
         requires stands { (h : List Event) × Stands self.old h × (length h < 16385) × (is_restarted h ≡ true) }
+        ensures settings { self.new.settings ≡ self.old.settings }
         ensures stands { (h : List Event) → Stands self.old h → is_restarted h ≡ true → is_granted h ≡ true → Stands self.new (Given item.now ∷ h) }
         ensures answer { (h : List Event) → Stands self.old h → is_restarted h ≡ true → result ≡ item_answer self.old.settings (Given item.now ∷ h) }
     {
@@ -198,6 +201,7 @@ impl Active {
 
     /// It read the slot of an item's record. A GET is answered by it, and a PUT keeps it in the log.
     pub(crate) fn record_read(&mut self, slot: &[u8; 32]) -> Option<ItemAnswer>
+        ensures settings { self.new.settings ≡ self.old.settings }
         ensures stands { (h : List Event) (rrn : ℕ) → Stands self.old h → is_restarted h ≡ true → IsPending (ledger self.old.settings h) (last_plan self.old.settings h) → is_granted h ≡ true → Stands self.new (RecordRead rrn slot.now ∷ h) }
         ensures answer { result ≡ answer_of_read self.old.plan slot.now }
     {
@@ -207,7 +211,8 @@ impl Active {
 
     /// It wrote the value of a PUT.
     pub(crate) fn record_written(&mut self, unit: UnitId, rrn: u16, value: &Value)
-        ensures { (h : List Event) → Stands self.old h → Stands self.new (RecordWritten unit rrn value.now ∷ h) }
+        ensures settings { self.new.settings ≡ self.old.settings }
+        ensures stands { (h : List Event) → Stands self.old h → Stands self.new (RecordWritten unit rrn value.now ∷ h) }
     {
         self.common.stage = Stage::Boundary;
     }
@@ -216,7 +221,8 @@ impl Active {
     #[tactic(auto, using(xrf_job::proofs::Counts::counts))]
     pub(crate) fn record_undone(&mut self, undo: &Undo)
         requires { (h : List Event) × Stands self.old h × (length h < 16385) }
-        ensures { (h : List Event) → Stands self.old h → is_restarted h ≡ true → IsPending (ledger self.old.settings h) (last_plan self.old.settings h) → is_granted h ≡ true → Stands self.new (RecordUndone undo.now.rrn undo.now.before ∷ h) }
+        ensures settings { self.new.settings ≡ self.old.settings }
+        ensures stands { (h : List Event) → Stands self.old h → is_restarted h ≡ true → IsPending (ledger self.old.settings h) (last_plan self.old.settings h) → is_granted h ≡ true → Stands self.new (RecordUndone undo.now.rrn undo.now.before ∷ h) }
     {
         self.undone += 1;
         self.rolled += 1;

@@ -14,7 +14,8 @@ use xrf_logrec::Keypoint;
 impl Active {
     /// It looked at the gate of a keypoint slot.
     pub(crate) fn key_looked(&mut self, place: u8, keypoint: Keypoint, gate: u8)
-        ensures { (h : List Event) → Stands self.old h → is_restarted h ≡ true → keypoint ≡ next_keypoint self.old.settings h → is_granted h ≡ true → Stands self.new (KeyLooked place gate ∷ h) }
+        ensures settings { self.new.settings ≡ self.old.settings }
+        ensures stands { (h : List Event) → Stands self.old h → is_restarted h ≡ true → keypoint ≡ next_keypoint self.old.settings h → is_granted h ≡ true → Stands self.new (KeyLooked place gate ∷ h) }
     {
         self.common.stage = if gate == OPEN {
             Stage::KpClose(place, keypoint)
@@ -25,14 +26,16 @@ impl Active {
 
     /// It closed the slot.
     pub(crate) fn key_closed(&mut self, place: u8, keypoint: Keypoint)
-        ensures { (h : List Event) → Stands self.old h → is_restarted h ≡ true → keypoint ≡ next_keypoint self.old.settings h → is_granted h ≡ true → Stands self.new (KeyClosed place ∷ h) }
+        ensures settings { self.new.settings ≡ self.old.settings }
+        ensures stands { (h : List Event) → Stands self.old h → is_restarted h ≡ true → keypoint ≡ next_keypoint self.old.settings h → is_granted h ≡ true → Stands self.new (KeyClosed place ∷ h) }
     {
         self.common.stage = Stage::KpBody(place, keypoint);
     }
 
     /// It wrote the keypoint behind the gate.
     pub(crate) fn key_bodied(&mut self, place: u8, keypoint: Keypoint)
-        ensures { (h : List Event) → Stands self.old h → is_restarted h ≡ true → keypoint ≡ next_keypoint self.old.settings h → is_granted h ≡ true → Stands self.new (KeyBodied place keypoint ∷ h) }
+        ensures settings { self.new.settings ≡ self.old.settings }
+        ensures stands { (h : List Event) → Stands self.old h → is_restarted h ≡ true → keypoint ≡ next_keypoint self.old.settings h → is_granted h ≡ true → Stands self.new (KeyBodied place keypoint ∷ h) }
     {
         self.common.stage = Stage::KpOpen(place, keypoint);
     }
@@ -41,7 +44,8 @@ impl Active {
     #[tactic(auto, using(crate::proofs::Small::small_numbers))]
     pub(crate) fn key_opened(&mut self, place: u8, keypoint: Keypoint)
         requires { (h : List Event) × Stands self.old h × (is_restarted h ≡ true) × (keypoint ≡ next_keypoint self.old.settings h) }
-        ensures { (h : List Event) → Stands self.old h → is_restarted h ≡ true → keypoint ≡ next_keypoint self.old.settings h → Stands self.new (KeyOpened place keypoint ∷ h) }
+        ensures settings { self.new.settings ≡ self.old.settings }
+        ensures stands { (h : List Event) → Stands self.old h → is_restarted h ≡ true → keypoint ≡ next_keypoint self.old.settings h → Stands self.new (KeyOpened place keypoint ∷ h) }
     {
         self.rooms.units.keyed(keypoint.start);
         self.keypoint = keypoint;

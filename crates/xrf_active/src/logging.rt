@@ -48,7 +48,8 @@ pub(crate) fn count_record(units: &mut Units, rec: &LogRec)
 impl Active {
     /// It looked at the gate of the slot of a log record.
     pub(crate) fn log_looked(&mut self, place: u32, rec: &LogRec, gate: u8)
-        ensures { (h : List Event) → Stands self.old h → AtHand self.old.settings h rec.now → Stands self.new (LogLooked place gate ∷ h) }
+        ensures settings { self.new.settings ≡ self.old.settings }
+        ensures stands { (h : List Event) → Stands self.old h → AtHand self.old.settings h rec.now → Stands self.new (LogLooked place gate ∷ h) }
     {
         self.common.stage = if gate == OPEN {
             Stage::LogClose(place, *rec)
@@ -59,14 +60,16 @@ impl Active {
 
     /// It closed the slot.
     pub(crate) fn log_closed(&mut self, place: u32, rec: &LogRec)
-        ensures { (h : List Event) → Stands self.old h → AtHand self.old.settings h rec.now → Stands self.new (LogClosed place ∷ h) }
+        ensures settings { self.new.settings ≡ self.old.settings }
+        ensures stands { (h : List Event) → Stands self.old h → AtHand self.old.settings h rec.now → Stands self.new (LogClosed place ∷ h) }
     {
         self.common.stage = Stage::LogBody(place, *rec);
     }
 
     /// It wrote the record behind the gate.
     pub(crate) fn log_bodied(&mut self, place: u32, rec: &LogRec)
-        ensures { (h : List Event) → Stands self.old h → AtHand self.old.settings h rec.now → Stands self.new (LogBodied place rec.now ∷ h) }
+        ensures settings { self.new.settings ≡ self.old.settings }
+        ensures stands { (h : List Event) → Stands self.old h → AtHand self.old.settings h rec.now → Stands self.new (LogBodied place rec.now ∷ h) }
     {
         self.common.stage = Stage::LogOpen(place, *rec);
     }
@@ -75,7 +78,8 @@ impl Active {
     #[tactic(auto, using(xrf_job::proofs::Counts::counts))]
     pub(crate) fn backed_out(&mut self, place: u32, rec: &LogRec)
         requires { (h : List Event) × Stands self.old h × (length h < 16385) }
-        ensures { (h : List Event) → Stands self.old h → is_restarted h ≡ false → AtHand self.old.settings h rec.now → Stands self.new (LogOpened place rec.now ∷ h) }
+        ensures settings { self.new.settings ≡ self.old.settings }
+        ensures stands { (h : List Event) → Stands self.old h → is_restarted h ≡ false → AtHand self.old.settings h rec.now → Stands self.new (LogOpened place rec.now ∷ h) }
     {
         self.opened += 1;
         self.common.stage = Stage::Boundary;
@@ -86,6 +90,7 @@ impl Active {
     #[tactic(auto, using(xrf_job::proofs::Counts::counts, crate::proofs::Small::small_numbers))]
     pub(crate) fn item_logged(&mut self, place: u32, rec: &LogRec) -> Option<ItemAnswer>
         requires { (h : List Event) × Stands self.old h × (length h < 16385) × (is_restarted h ≡ true) × AtHand self.old.settings h rec.now }
+        ensures settings { self.new.settings ≡ self.old.settings }
         ensures stands { (h : List Event) → Stands self.old h → is_restarted h ≡ true → AtHand self.old.settings h rec.now → Stands self.new (LogOpened place rec.now ∷ h) }
         ensures answer { result ≡ answer_of_record rec.now }
     {

@@ -16,7 +16,8 @@ use xrf_job::Purpose;
 impl Active {
     /// The control data set is reserved.
     pub(crate) fn reserved(&mut self)
-        ensures { (h : List Event) → Stands self.old h → Stands self.new (Reserved ∷ h) }
+        ensures settings { self.new.settings ≡ self.old.settings }
+        ensures stands { (h : List Event) → Stands self.old h → Stands self.new (Reserved ∷ h) }
     {
         let purpose = if self.common.inc == 0 {
             Purpose::SignOnActive
@@ -33,7 +34,8 @@ impl Active {
     /// The control record is read.
     pub(crate) fn control_read(&mut self, held: &Control, known: Known)
         requires { held.now.last < 4294967295 }
-        ensures { (h : List Event) → Stands self.old h → Stands self.new (ControlRead held.now known ∷ h) }
+        ensures settings { self.new.settings ≡ self.old.settings }
+        ensures stands { (h : List Event) → Stands self.old h → Stands self.new (ControlRead held.now known ∷ h) }
     {
         let epoch = match self.sending {
             Some(sending) => sending.writer.epoch,
@@ -44,7 +46,8 @@ impl Active {
 
     /// The control record is written.
     pub(crate) fn control_written(&mut self, written: &Control)
-        ensures { (h : List Event) → Stands self.old h → self.old.common.stage ≡ At.CtlWrite written.now → Stands self.new (ControlWritten written.now ∷ h) }
+        ensures settings { self.new.settings ≡ self.old.settings }
+        ensures stands { (h : List Event) → Stands self.old h → self.old.common.stage ≡ At.CtlWrite written.now → Stands self.new (ControlWritten written.now ∷ h) }
     {
         self.common.control_written(written);
     }
@@ -53,7 +56,8 @@ impl Active {
     /// epoch.
     pub(crate) fn released(&mut self)
         requires { (h : List Event) × Stands self.old h }
-        ensures { (h : List Event) → Stands self.old h → Stands self.new (Released ∷ h) }
+        ensures settings { self.new.settings ≡ self.old.settings }
+        ensures stands { (h : List Event) → Stands self.old h → Stands self.new (Released ∷ h) }
     {
         if let Purpose::DropAlternate = self.common.purpose {
             if self.common.read.taking().is_some() {
@@ -67,7 +71,8 @@ impl Active {
 
     /// It has ended.
     pub(crate) fn ended(&mut self, why: EndWhy)
-        ensures { (h : List Event) → Stands self.old h → Stands self.new (EndedAs why ∷ h) }
+        ensures settings { self.new.settings ≡ self.old.settings }
+        ensures stands { (h : List Event) → Stands self.old h → Stands self.new (EndedAs why ∷ h) }
     {
         self.common.ended(why);
     }

@@ -18,7 +18,8 @@ impl Active {
     #[tactic(auto, using(crate::proofs::Backouts::filter_none))]
     pub(crate) fn first_block_read(&mut self, block: &[u8; 4096], keys: &[u8; 128])
         requires { self.old.rooms.scan.ended ≡ false }
-        ensures { (h : List Event) → Stands self.old h → (anchor_of keys.now).number < 16384 → (anchor_of keys.now).start < 16384 → Stands self.new (FirstBlockRead block.now keys.now ∷ h) }
+        ensures settings { self.new.settings ≡ self.old.settings }
+        ensures stands { (h : List Event) → Stands self.old h → (anchor_of keys.now).number < 16384 → (anchor_of keys.now).start < 16384 → Stands self.new (FirstBlockRead block.now keys.now ∷ h) }
     {
         let scan = &mut self.rooms.scan;
         scan.anchors(keys);
@@ -38,7 +39,8 @@ impl Active {
     #[tactic(auto, using(crate::proofs::Backouts::filter_none))]
     pub(crate) fn block_read(&mut self, block: &[u8; 4096])
         requires { self.old.rooms.scan.ended ≡ false }
-        ensures { (h : List Event) → Stands self.old h → Stands self.new (BlockRead block.now ∷ h) }
+        ensures settings { self.new.settings ≡ self.old.settings }
+        ensures stands { (h : List Event) → Stands self.old h → Stands self.new (BlockRead block.now ∷ h) }
     {
         self.has_scanned = match self.rooms.scan.take(block) {
             ScanNext::More => false,
@@ -52,7 +54,8 @@ impl Active {
     #[tactic(auto, using(xrf_job::proofs::Counts::counts))]
     pub(crate) fn undo_made(&mut self, undo: &Undo)
         requires { (h : List Event) × Stands self.old h × (length h < 16385) }
-        ensures { (h : List Event) → Stands self.old h → is_restarted h ≡ false → Stands self.new (RecordUndone undo.now.rrn undo.now.before ∷ h) }
+        ensures settings { self.new.settings ≡ self.old.settings }
+        ensures stands { (h : List Event) → Stands self.old h → is_restarted h ≡ false → Stands self.new (RecordUndone undo.now.rrn undo.now.before ∷ h) }
     {
         self.undone += 1;
         self.rolled += 1;
@@ -63,7 +66,8 @@ impl Active {
     #[tactic(auto, using(xrf_job::proofs::Counts::counts, crate::proofs::Small::small_numbers))]
     pub(crate) fn restart_declared(&mut self)
         requires { (h : List Event) × Stands self.old h × (length h < 16385) × (is_restarted h ≡ false) }
-        ensures { (h : List Event) → Stands self.old h → is_restarted h ≡ false → (scan self.old.settings h).ended ≡ true → is_draining h ≡ false → Stands self.new (RestartDeclared ∷ h) }
+        ensures settings { self.new.settings ≡ self.old.settings }
+        ensures stands { (h : List Event) → Stands self.old h → is_restarted h ≡ false → (scan self.old.settings h).ended ≡ true → is_draining h ≡ false → Stands self.new (RestartDeclared ∷ h) }
     {
         let next = self.rooms.scan.next() + self.opened;
         self.rooms

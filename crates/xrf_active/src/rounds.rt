@@ -22,21 +22,24 @@ impl Active {
     #[tactic(auto, using(xrf_job::proofs::Counts::counts))]
     pub(crate) fn signalled1(&mut self, signal: &Signal)
         requires { (h : List Event) × Stands self.old h × (length h < 16385) }
-        ensures { (h : List Event) → Stands self.old h → is_granted h ≡ true → signal.now ≡ signal_of h (rounds h + 1) → Stands self.new (Signalled1 signal.now ∷ h) }
+        ensures settings { self.new.settings ≡ self.old.settings }
+        ensures stands { (h : List Event) → Stands self.old h → is_granted h ≡ true → signal.now ≡ signal_of h (rounds h + 1) → Stands self.new (Signalled1 signal.now ∷ h) }
     {
         self.common.signalled1(signal);
     }
 
     /// It gave the signal in the message data set.
     pub(crate) fn signalled2(&mut self, signal: &Signal)
-        ensures { (h : List Event) → Stands self.old h → is_granted h ≡ true → Stands self.new (Signalled2 signal.now ∷ h) }
+        ensures settings { self.new.settings ≡ self.old.settings }
+        ensures stands { (h : List Event) → Stands self.old h → is_granted h ≡ true → Stands self.new (Signalled2 signal.now ∷ h) }
     {
         self.common.signalled2(signal);
     }
 
     /// It looked at the control record and at the signal beside it.
     pub(crate) fn looked1(&mut self, held: &Control, signal: &Option<Signal>)
-        ensures { (h : List Event) → Stands self.old h → is_granted h ≡ true → Stands self.new (Looked1 held.now signal.now ∷ h) }
+        ensures settings { self.new.settings ≡ self.old.settings }
+        ensures stands { (h : List Event) → Stands self.old h → is_granted h ≡ true → Stands self.new (Looked1 held.now signal.now ∷ h) }
     {
         self.common.looked1(held, signal);
         if let Some(signal) = signal {
@@ -49,7 +52,8 @@ impl Active {
     /// It looked at the signal in the message data set.
     pub(crate) fn looked2(&mut self, signal: &Option<Signal>, at: Tick)
         requires { (h : List Event) × Stands self.old h × (change h ≤ at) }
-        ensures { (h : List Event) → Stands self.old h → is_granted h ≡ true → Stands self.new (Looked2 signal.now at ∷ h) }
+        ensures settings { self.new.settings ≡ self.old.settings }
+        ensures stands { (h : List Event) → Stands self.old h → is_granted h ≡ true → Stands self.new (Looked2 signal.now at ∷ h) }
     {
         self.common.looked2(signal, at);
         if let Some(signal) = signal {
@@ -62,7 +66,8 @@ impl Active {
     /// It decides, by the record of the last look. A new alternate is caught up, from no message on.
     pub(crate) fn decision_made(&mut self, known: Known, at: Tick)
         requires { (h : List Event) × Stands self.old h × (change h ≤ at) }
-        ensures { (h : List Event) → Stands self.old h → is_granted h ≡ true → Stands self.new (DecisionMade known at (cause self.old.settings h known at) ∷ h) }
+        ensures settings { self.new.settings ≡ self.old.settings }
+        ensures stands { (h : List Event) → Stands self.old h → is_granted h ≡ true → Stands self.new (DecisionMade known at (cause self.old.settings h known at) ∷ h) }
     {
         let epoch = match self.sending {
             Some(sending) => Some(sending.writer.epoch),

@@ -27,6 +27,7 @@ impl Active {
     /// Takes an answer, and gives that of the item that it ends.
     pub fn take(&mut self, answer: &Answer) -> Option<ItemAnswer>
         requires { (h : List Event) × CanTake self.old h answer.now }
+        ensures settings { self.new.settings ≡ self.old.settings }
         ensures stands { (h : List Event) → CanTake self.old h answer.now → Stands self.new (event self.old.settings h answer.now ∷ h) }
         ensures answer { (h : List Event) → CanTake self.old h answer.now → result ≡ item_answer self.old.settings (event self.old.settings h answer.now ∷ h) }
     {
@@ -45,6 +46,7 @@ impl Active {
     fn handed(&mut self, answer: &Answer)
         requires quiet { EndsNoItem answer.now }
         requires can { (h : List Event) × CanTake self.old h answer.now }
+        ensures settings { self.new.settings ≡ self.old.settings }
         ensures stands { (h : List Event) → CanTake self.old h answer.now → Stands self.new (event self.old.settings h answer.now ∷ h) }
         ensures answer { (h : List Event) → CanTake self.old h answer.now → item_answer self.old.settings (event self.old.settings h answer.now ∷ h) ≡ None }
     {
@@ -78,6 +80,7 @@ impl Active {
     // an act is made that is answered by the tick alone
     fn done(&mut self) -> Option<ItemAnswer>
         requires stands { (h : List Event) × Stands self.old h × (length h < 16385) × (is_plain (next self.old.settings h) ≡ true) }
+        ensures settings { self.new.settings ≡ self.old.settings }
         ensures stands { (h : List Event) → Stands self.old h → is_plain (next self.old.settings h) ≡ true → Stands self.new (made (next self.old.settings h) ∷ h) }
         ensures answer { (h : List Event) → Stands self.old h → is_plain (next self.old.settings h) ≡ true → result ≡ item_answer self.old.settings (made (next self.old.settings h) ∷ h) }
     {
@@ -98,6 +101,7 @@ impl Active {
     fn log_opened(&mut self, place: u32, rec: &LogRec) -> Option<ItemAnswer>
         requires stands { (h : List Event) × Stands self.old h × (length h < 16385) }
         requires stage { self.old.common.stage ≡ At.LogOpen place rec.now }
+        ensures settings { self.new.settings ≡ self.old.settings }
         ensures stands { (h : List Event) → Stands self.old h → Stands self.new (LogOpened place rec.now ∷ h) }
         ensures answer { (h : List Event) → Stands self.old h → result ≡ item_answer self.old.settings (LogOpened place rec.now ∷ h) }
     {
@@ -113,6 +117,7 @@ impl Active {
     fn made(&mut self)
         requires stands { (h : List Event) × Stands self.old h × (length h < 16385) × (is_plain (next self.old.settings h) ≡ true) }
         requires quiet { LeavesItemOpen self.old.common.stage }
+        ensures settings { self.new.settings ≡ self.old.settings }
         ensures stands { (h : List Event) → Stands self.old h → is_plain (next self.old.settings h) ≡ true → Stands self.new (made (next self.old.settings h) ∷ h) }
         ensures answer { (h : List Event) → Stands self.old h → is_plain (next self.old.settings h) ≡ true → item_answer self.old.settings (made (next self.old.settings h) ∷ h) ≡ None }
     {
@@ -147,6 +152,7 @@ impl Active {
     fn begun(&mut self)
         requires stands { (h : List Event) × Stands self.old h × (length h < 16385) × (is_plain (next self.old.settings h) ≡ true) }
         requires boundary { self.old.common.stage ≡ At.Boundary }
+        ensures settings { self.new.settings ≡ self.old.settings }
         ensures stands { (h : List Event) → Stands self.old h → is_plain (next self.old.settings h) ≡ true → Stands self.new (made (next self.old.settings h) ∷ h) }
         ensures answer { (h : List Event) → Stands self.old h → is_plain (next self.old.settings h) ≡ true → item_answer self.old.settings (made (next self.old.settings h) ∷ h) ≡ None }
     {
@@ -163,7 +169,8 @@ impl Active {
     // the first part of a look is handed
     fn look1_handed(&mut self, held: &Control, signal: &Option<Signal>)
         requires { (h : List Event) × Stands self.old h × (length h < 16385) × (fits self.old.settings h (next self.old.settings h) (An.Look1 held.now signal.now) ≡ true) }
-        ensures { (h : List Event) → Stands self.old h → fits self.old.settings h (next self.old.settings h) (An.Look1 held.now signal.now) ≡ true → Stands self.new (Looked1 held.now signal.now ∷ h) }
+        ensures settings { self.new.settings ≡ self.old.settings }
+        ensures stands { (h : List Event) → Stands self.old h → fits self.old.settings h (next self.old.settings h) (An.Look1 held.now signal.now) ≡ true → Stands self.new (Looked1 held.now signal.now ∷ h) }
     {
         match self.common.stage {
             Stage::Look1 => self.looked1(held, signal),
@@ -177,7 +184,8 @@ impl Active {
     // the second part of a look is handed
     fn look2_handed(&mut self, signal: &Option<Signal>, at: Tick)
         requires { (h : List Event) × Stands self.old h × (length h < 16385) × (fits self.old.settings h (next self.old.settings h) (An.Look2 signal.now at) ≡ true) × (change h ≤ at) }
-        ensures { (h : List Event) → Stands self.old h → fits self.old.settings h (next self.old.settings h) (An.Look2 signal.now at) ≡ true → Stands self.new (Looked2 signal.now at ∷ h) }
+        ensures settings { self.new.settings ≡ self.old.settings }
+        ensures stands { (h : List Event) → Stands self.old h → fits self.old.settings h (next self.old.settings h) (An.Look2 signal.now at) ≡ true → Stands self.new (Looked2 signal.now at ∷ h) }
     {
         match self.common.stage {
             Stage::Look2 => self.looked2(signal, at),
@@ -191,7 +199,8 @@ impl Active {
     // what is confirmed of the record of the last look is handed
     fn decision_handed(&mut self, known: Known, at: Tick)
         requires { (h : List Event) × Stands self.old h × (length h < 16385) × (fits self.old.settings h (next self.old.settings h) (An.Decide known at) ≡ true) × (change h ≤ at) }
-        ensures { (h : List Event) → Stands self.old h → fits self.old.settings h (next self.old.settings h) (An.Decide known at) ≡ true → Stands self.new (DecisionMade known at (cause self.old.settings h known at) ∷ h) }
+        ensures settings { self.new.settings ≡ self.old.settings }
+        ensures stands { (h : List Event) → Stands self.old h → fits self.old.settings h (next self.old.settings h) (An.Decide known at) ≡ true → Stands self.new (DecisionMade known at (cause self.old.settings h known at) ∷ h) }
     {
         match self.common.stage {
             Stage::Decide => self.decision_made(known, at),
@@ -205,7 +214,8 @@ impl Active {
     // a message slot is handed
     fn slot_handed(&mut self, slot: &[u8; 64])
         requires { (h : List Event) × Stands self.old h × (length h < 16385) × (fits self.old.settings h (next self.old.settings h) (An.MsgSlot slot.now) ≡ true) }
-        ensures { (h : List Event) → Stands self.old h → fits self.old.settings h (next self.old.settings h) (An.MsgSlot slot.now) ≡ true → Stands self.new (MessageRead (place_of (next self.old.settings h)) slot.now ∷ h) }
+        ensures settings { self.new.settings ≡ self.old.settings }
+        ensures stands { (h : List Event) → Stands self.old h → fits self.old.settings h (next self.old.settings h) (An.MsgSlot slot.now) ≡ true → Stands self.new (MessageRead (place_of (next self.old.settings h)) slot.now ∷ h) }
     {
         match self.common.stage {
             Stage::Boundary => match self.due() {
@@ -220,7 +230,8 @@ impl Active {
     // a further block of the log is handed
     fn block_handed(&mut self, block: &[u8; 4096])
         requires { (h : List Event) × Stands self.old h × (length h < 16385) × (fits self.old.settings h (next self.old.settings h) (An.LogBlock block.now) ≡ true) }
-        ensures { (h : List Event) → Stands self.old h → fits self.old.settings h (next self.old.settings h) (An.LogBlock block.now) ≡ true → Stands self.new (BlockRead block.now ∷ h) }
+        ensures settings { self.new.settings ≡ self.old.settings }
+        ensures stands { (h : List Event) → Stands self.old h → fits self.old.settings h (next self.old.settings h) (An.LogBlock block.now) ≡ true → Stands self.new (BlockRead block.now ∷ h) }
     {
         match self.common.stage {
             Stage::Boundary => match self.due() {
@@ -249,7 +260,8 @@ impl Active {
     // the first block of the log is handed, and both keypoint slots
     fn first_block_handed(&mut self, block: &[u8; 4096], keys: &[u8; 128])
         requires { (h : List Event) × Stands self.old h × (length h < 16385) × (fits self.old.settings h (next self.old.settings h) (An.Anchored block.now keys.now) ≡ true) × ((anchor_of keys.now).number < 16384) × ((anchor_of keys.now).start < 16384) }
-        ensures { (h : List Event) → Stands self.old h → fits self.old.settings h (next self.old.settings h) (An.Anchored block.now keys.now) ≡ true → (anchor_of keys.now).number < 16384 → (anchor_of keys.now).start < 16384 → Stands self.new (FirstBlockRead block.now keys.now ∷ h) }
+        ensures settings { self.new.settings ≡ self.old.settings }
+        ensures stands { (h : List Event) → Stands self.old h → fits self.old.settings h (next self.old.settings h) (An.Anchored block.now keys.now) ≡ true → (anchor_of keys.now).number < 16384 → (anchor_of keys.now).start < 16384 → Stands self.new (FirstBlockRead block.now keys.now ∷ h) }
     {
         if self.is_block_due() {
             self.first_block_read(block, keys);
@@ -259,7 +271,8 @@ impl Active {
     // the gate of a log or keypoint slot is handed
     fn gate_handed(&mut self, gate: u8)
         requires { (h : List Event) × Stands self.old h × (length h < 16385) × (fits self.old.settings h (next self.old.settings h) (An.Gate gate) ≡ true) }
-        ensures { (h : List Event) → Stands self.old h → fits self.old.settings h (next self.old.settings h) (An.Gate gate) ≡ true → Stands self.new (gate_event (next self.old.settings h) gate ∷ h) }
+        ensures settings { self.new.settings ≡ self.old.settings }
+        ensures stands { (h : List Event) → Stands self.old h → fits self.old.settings h (next self.old.settings h) (An.Gate gate) ≡ true → Stands self.new (gate_event (next self.old.settings h) gate ∷ h) }
     {
         match self.common.stage {
             Stage::LogLook(place, rec) => self.log_looked(place, &rec, gate),
@@ -279,6 +292,7 @@ impl Active {
     // the slot of a file record is handed
     fn record_handed(&mut self, slot: &[u8; 32]) -> Option<ItemAnswer>
         requires { (h : List Event) × Stands self.old h × (length h < 16385) × (fits self.old.settings h (next self.old.settings h) (An.FileSlot slot.now) ≡ true) }
+        ensures settings { self.new.settings ≡ self.old.settings }
         ensures stands { (h : List Event) → Stands self.old h → fits self.old.settings h (next self.old.settings h) (An.FileSlot slot.now) ≡ true → Stands self.new (RecordRead (place_of (next self.old.settings h)) slot.now ∷ h) }
         ensures answer { (h : List Event) → Stands self.old h → fits self.old.settings h (next self.old.settings h) (An.FileSlot slot.now) ≡ true → result ≡ item_answer self.old.settings (RecordRead (place_of (next self.old.settings h)) slot.now ∷ h) }
     {
@@ -294,6 +308,7 @@ impl Active {
     // an item is handed
     fn item_handed(&mut self, item: &Item) -> Option<ItemAnswer>
         requires { (h : List Event) × Stands self.old h × (length h < 16385) × (fits self.old.settings h (next self.old.settings h) (An.Item item.now) ≡ true) }
+        ensures settings { self.new.settings ≡ self.old.settings }
         ensures stands { (h : List Event) → Stands self.old h → fits self.old.settings h (next self.old.settings h) (An.Item item.now) ≡ true → Stands self.new (Given item.now ∷ h) }
         ensures answer { (h : List Event) → Stands self.old h → fits self.old.settings h (next self.old.settings h) (An.Item item.now) ≡ true → result ≡ item_answer self.old.settings (Given item.now ∷ h) }
     {
@@ -309,7 +324,8 @@ impl Active {
     // its act failed
     fn act_failed(&mut self)
         requires { (h : List Event) × Stands self.old h × (length h < 16385) × (may_fail (next self.old.settings h) ≡ true) }
-        ensures { (h : List Event) (at : ℕ) → Stands self.old h → may_fail (next self.old.settings h) ≡ true → Stands self.new (ActFailed (next self.old.settings h) at ∷ h) }
+        ensures settings { self.new.settings ≡ self.old.settings }
+        ensures stands { (h : List Event) (at : ℕ) → Stands self.old h → may_fail (next self.old.settings h) ≡ true → Stands self.new (ActFailed (next self.old.settings h) at ∷ h) }
     {
         match self.stage() {
             Stage::Boundary => self.row_failed(),
@@ -348,7 +364,8 @@ impl Active {
     fn row_failed(&mut self)
         requires stands { (h : List Event) × Stands self.old h × (length h < 16385) × (may_fail (next self.old.settings h) ≡ true) }
         requires boundary { self.old.common.stage ≡ At.Boundary }
-        ensures { (h : List Event) (at : ℕ) → Stands self.old h → may_fail (next self.old.settings h) ≡ true → Stands self.new (ActFailed (next self.old.settings h) at ∷ h) }
+        ensures settings { self.new.settings ≡ self.old.settings }
+        ensures stands { (h : List Event) (at : ℕ) → Stands self.old h → may_fail (next self.old.settings h) ≡ true → Stands self.new (ActFailed (next self.old.settings h) at ∷ h) }
     {
         match self.due() {
             Due::Drain(_) => self.slot_failed(),

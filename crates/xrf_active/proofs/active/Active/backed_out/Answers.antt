@@ -2,8 +2,8 @@ use Rattle.std.proofs.Common.{ℕ, ◌+◌, ap, refl}
 use Rattle.xrf_active.proofs.Backouts.{backed_out}
 use Rattle.xrf_active.proofs.active.Active.backed_out.Goals as goal
 
-pub returns : goal.returns
-returns c = λ h s running hand.
+pub returns-clause-stands : goal.returns-clause-stands
+returns-clause-stands c = λ h s running hand.
     record {
       shared = record {
         inc = s.shared.inc;

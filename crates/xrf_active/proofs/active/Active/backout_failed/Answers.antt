@@ -8,8 +8,8 @@ use Rattle.xrf_active.proofs.Backouts.{backed_out}
 use Rattle.xrf_active.proofs.Failures.{sign_off-failed, drop-failed}
 use Rattle.xrf_active.proofs.active.Active.backout_failed.Goals as goal
 
-pub returns : goal.returns
-returns c = λ h place at s granted running hand.
+pub returns-clause-stands : goal.returns-clause-stands
+returns-clause-stands c = λ h place at s granted running hand.
     let owner : is_owner h ≡ true = s.owns ∙ granted in
     subst (λ (job : Active). Stands job (ActFailed (want.LogOpen place c.args.rec.now) at ∷ h)) (sym c.fail.ensures) (record {
       shared = record {

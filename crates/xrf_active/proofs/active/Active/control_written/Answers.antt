@@ -6,8 +6,8 @@ use Rattle.xrf_history.specs.Next.{record_for}
 use Rattle.xrf_active.proofs.Granting.{is_owner-written, is_draining-written}
 use Rattle.xrf_active.proofs.active.Active.control_written.Goals as goal
 
-pub returns : goal.returns
-returns c = λ h s at.
+pub returns-clause-stands : goal.returns-clause-stands
+returns-clause-stands c = λ h s at.
     let p = c.args.self.now.settings in
     let w = c.args.written.now in
     let e : record_for p h ≡ Some w = subst (λ (x : At). Within x p h) at s.shared.within in

@@ -22,7 +22,7 @@ returns-in-Anchored-clause-stands c = λ h can.
     let p = c.args.self.now.settings in
     let fitting = subst (λ (a : Answer). may_take p h a ≡ true) c.in-Anchored.is can.fitting in
     let small = subst (λ (a : Answer). HasSmallKeys a) c.in-Anchored.is can.small_keys in
-    taken _ p h _ _ c.in-Anchored.is (c.first_block_handed.ensures h can.stands fitting small.0 small.1)
+    taken _ p h _ _ c.in-Anchored.is (c.first_block_handed.ensures.stands h can.stands fitting small.0 small.1)
 
 pub returns-in-Gate-clause-answer : goal.returns-in-Gate-clause-answer
 returns-in-Gate-clause-answer c = λ h can.
@@ -33,4 +33,4 @@ pub returns-in-Failed-clause-stands : goal.returns-in-Failed-clause-stands
 returns-in-Failed-clause-stands c = λ h can.
     let p = c.args.self.now.settings in
     let fails = subst (λ (a : Answer). may_take p h a ≡ true) c.in-Failed.is can.fitting in
-    taken _ p h _ _ c.in-Failed.is (c.act_failed.ensures h _ can.stands fails)
+    taken _ p h _ _ c.in-Failed.is (c.act_failed.ensures.stands h _ can.stands fails)

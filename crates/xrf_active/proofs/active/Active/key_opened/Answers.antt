@@ -3,8 +3,8 @@ use Rattle.xrf_file.specs.Ledger.{Ledger, keyed}
 use Rattle.xrf_active.proofs.Small.{keypoint-small}
 use Rattle.xrf_active.proofs.active.Active.key_opened.Goals as goal
 
-pub returns : goal.returns
-returns c = λ h s restarted is.
+pub returns-clause-stands : goal.returns-clause-stands
+returns-clause-stands c = λ h s restarted is.
     let few = keypoint-small c.args.self.now.settings h s.small in
     let small : c.args.keypoint.number ≤ 16385 + length h = rw is (omega arith) in
     record {

@@ -15,8 +15,8 @@ use Rattle.xrf_history.specs.Taking.{is_draining}
 use Rattle.xrf_active.proofs.Failures.{left-quiet}
 use Rattle.xrf_active.proofs.active.Active.quiet_failed.Goals as goal
 
-pub returns : goal.returns
-returns c = λ h tried at s granted is.
+pub returns-clause-stands : goal.returns-clause-stands
+returns-clause-stands c = λ h tried at s granted is.
     let p = c.args.self.now.settings in
     let b = c.args.on_message in
     let owner : is_owner h ≡ true = s.owns ∙ granted in

@@ -8,50 +8,50 @@ use Rattle.xrf_active.specs.Failing.{IsQuiet}
 use Rattle.xrf_active.proofs.Failures.{is_backout, quiet-backout, failed-act}
 use Rattle.xrf_active.proofs.active.Active.row_failed.Goals as goal
 
-pub returns-in-Scan : goal.returns-in-Scan
-returns-in-Scan c = λ h at s fails.
+pub returns-in-Scan-clause-stands : goal.returns-in-Scan-clause-stands
+returns-in-Scan-clause-stands c = λ h at s fails.
     let p = c.args.self.now.settings in
     let begins = subst (λ (x : Due). Begins x p h) c.in-Scan.is (c.due.ensures.begins h s) in
     let none = ap (or_boundary p h) (sym (ap inside_of c.requires.boundary) ∙ s.shared.stage) in
     let act = sym (ap (act_of p) c.in-Scan.is) ∙ c.due.ensures.act h s ∙ none in
-    c.quiet_failed.ensures h (next p h) at s begins.1 (subst (λ (w : Want). IsQuiet w false) act refl)
+    c.quiet_failed.ensures.stands h (next p h) at s begins.1 (subst (λ (w : Want). IsQuiet w false) act refl)
 
-pub returns-in-Keypoint : goal.returns-in-Keypoint
-returns-in-Keypoint c = λ h at s fails.
+pub returns-in-Keypoint-clause-stands : goal.returns-in-Keypoint-clause-stands
+returns-in-Keypoint-clause-stands c = λ h at s fails.
     let p = c.args.self.now.settings in
     let begins = subst (λ (x : Due). Begins x p h) c.in-Keypoint.is (c.due.ensures.begins h s) in
     let none = ap (or_boundary p h) (sym (ap inside_of c.requires.boundary) ∙ s.shared.stage) in
     let act = sym (ap (act_of p) c.in-Keypoint.is) ∙ c.due.ensures.act h s ∙ none in
-    c.quiet_failed-in-Keypoint.ensures h (next p h) at s begins.2 (subst (λ (w : Want). IsQuiet w false) act refl)
+    c.quiet_failed-in-Keypoint.ensures.stands h (next p h) at s begins.2 (subst (λ (w : Want). IsQuiet w false) act refl)
 
-pub returns-in-Backout : goal.returns-in-Backout
-returns-in-Backout c = λ h at s fails.
+pub returns-in-Backout-clause-stands : goal.returns-in-Backout-clause-stands
+returns-in-Backout-clause-stands c = λ h at s fails.
     let p = c.args.self.now.settings in
     let begins = subst (λ (x : Due). Begins x p h) c.in-Backout.is (c.due.ensures.begins h s) in
     let none = ap (or_boundary p h) (sym (ap inside_of c.requires.boundary) ∙ s.shared.stage) in
     let act = c.due.ensures.act h s ∙ none in
-    c.quiet_failed-in-Backout.ensures h (next p h) at s begins.granted (subst (λ (w : Want). IsQuiet w false) act (quiet-backout p c.due.result (ap is_backout c.in-Backout.is)))
+    c.quiet_failed-in-Backout.ensures.stands h (next p h) at s begins.granted (subst (λ (w : Want). IsQuiet w false) act (quiet-backout p c.due.result (ap is_backout c.in-Backout.is)))
 
-pub returns-in-Drain : goal.returns-in-Drain
-returns-in-Drain c = λ h at s fails.
+pub returns-in-Drain-clause-stands : goal.returns-in-Drain-clause-stands
+returns-in-Drain-clause-stands c = λ h at s fails.
     let p = c.args.self.now.settings in
     let begins = subst (λ (x : Due). Begins x p h) c.in-Drain.is (c.due.ensures.begins h s) in
     let none = ap (or_boundary p h) (sym (ap inside_of c.requires.boundary) ∙ s.shared.stage) in
     let act = sym (ap (act_of p) c.in-Drain.is) ∙ c.due.ensures.act h s ∙ none in
-    failed-act _ h at _ _ act (c.slot_failed.ensures h _ at s begins.2)
+    failed-act _ h at _ _ act (c.slot_failed.ensures.stands h _ at s begins.2)
 
-pub returns-in-Message : goal.returns-in-Message
-returns-in-Message c = λ h at s fails.
+pub returns-in-Message-clause-stands : goal.returns-in-Message-clause-stands
+returns-in-Message-clause-stands c = λ h at s fails.
     let p = c.args.self.now.settings in
     let begins = subst (λ (x : Due). Begins x p h) c.in-Message.is (c.due.ensures.begins h s) in
     let none = ap (or_boundary p h) (sym (ap inside_of c.requires.boundary) ∙ s.shared.stage) in
     let act = sym (ap (act_of p) c.in-Message.is) ∙ c.due.ensures.act h s ∙ none in
-    failed-act _ h at _ _ act (c.slot_failed-in-Message.ensures h _ at s begins.2)
+    failed-act _ h at _ _ act (c.slot_failed-in-Message.ensures.stands h _ at s begins.2)
 
-pub returns-in-Undo : goal.returns-in-Undo
-returns-in-Undo c = λ h at s fails.
+pub returns-in-Undo-clause-stands : goal.returns-in-Undo-clause-stands
+returns-in-Undo-clause-stands c = λ h at s fails.
     let p = c.args.self.now.settings in
     let begins = subst (λ (x : Due). Begins x p h) c.in-Undo.is (c.due.ensures.begins h s) in
     let none = ap (or_boundary p h) (sym (ap inside_of c.requires.boundary) ∙ s.shared.stage) in
     let act = sym (ap (act_of p) c.in-Undo.is) ∙ c.due.ensures.act h s ∙ none in
-    failed-act _ h at _ _ act (c.undo_failed.ensures h _ _ at s begins.1)
+    failed-act _ h at _ _ act (c.undo_failed.ensures.stands h _ _ at s begins.1)

@@ -5,8 +5,8 @@ use Rattle.xrf_history.specs.Taking.{gives, expected}
 use Rattle.xrf_active.proofs.Draining.{draining-read, table-read}
 use Rattle.xrf_active.proofs.active.Active.slot_drained.Goals as goal
 
-pub returns-then-not-message_read : goal.returns-then-not-message_read
-returns-then-not-message_read c = λ h place s drains running.
+pub returns-then-not-message_read-clause-stands : goal.returns-then-not-message_read-clause-stands
+returns-then-not-message_read-clause-stands c = λ h place s drains running.
     let p = c.args.self.now.settings in
     let slot = c.args.slot.now in
     let gave : is_some (given slot (number h) (expected h)) ≡ c.message_read.result = cc (s.shared.inc, s.shared.expected, c.message_read.ensures.gave) in
@@ -46,8 +46,8 @@ returns-then-not-message_read c = λ h place s drains running.
       rolls = s.rolls;
     }
 
-pub returns-else-not-message_read : goal.returns-else-not-message_read
-returns-else-not-message_read c = λ h place s drains running.
+pub returns-else-not-message_read-clause-stands : goal.returns-else-not-message_read-clause-stands
+returns-else-not-message_read-clause-stands c = λ h place s drains running.
     let p = c.args.self.now.settings in
     let slot = c.args.slot.now in
     let gave : is_some (given slot (number h) (expected h)) ≡ c.message_read.result = cc (s.shared.inc, s.shared.expected, c.message_read.ensures.gave) in

@@ -5,8 +5,8 @@ use Rattle.xrf_active.specs.declared.due.Due.{Due}
 use Rattle.xrf_active.specs.Dues.{Begins}
 use Rattle.xrf_active.proofs.active.Active.slot_handed.Goals as goal
 
-pub returns-in-Drain : goal.returns-in-Drain
-returns-in-Drain c = λ h s fitting.
+pub returns-in-Drain-clause-stands : goal.returns-in-Drain-clause-stands
+returns-in-Drain-clause-stands c = λ h s fitting.
     let p = c.args.self.now.settings in
     let begins = subst (λ (x : Due). Begins x p h) c.in-Drain.is (c.due.ensures.begins h s) in
-    c.slot_drained.ensures h (place_of (next p h)) s begins.0 begins.1
+    c.slot_drained.ensures.stands h (place_of (next p h)) s begins.0 begins.1

@@ -1,3 +1,12 @@
 pub mod Formats
 pub mod Updates
 pub mod Silent
+pub mod Tests
+pub mod Same
+pub mod OneOwnerByTests
+pub mod UnitsAreItemsByTests
+pub mod ItemsSeeBookByTests
+pub mod TerminalsAreToldByTests
+pub mod NextIsDueByTests
+pub mod StartsAsWrittenByTests
+pub mod Promised

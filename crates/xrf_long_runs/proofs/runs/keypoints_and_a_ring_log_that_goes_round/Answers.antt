@@ -1,5 +1,5 @@
--- Part by part: each computes to nothing, or to equations whose sides are the same.
-use Rattle.std.proofs.Common.{refl, take, drop, rules}
+-- What is safe, part by part: each computes to nothing, or to equations whose sides are the same. What is promised, by tests.
+use Rattle.std.proofs.Common.{refl, take, drop}
 use Rattle.xrf_base.specs.declared.site.Site.TheVariants as site
 use Rattle.xrf_ctl.specs.declared.parts.OwnerState.TheVariants as state
 use Rattle.xrf_trace.specs.OneUpdater.{UpdatesAsOwner, CountsByGrants, GrantsNext, GrantsPlace}
@@ -11,12 +11,11 @@ use Rattle.xrf_trace.specs.ThroughByProof.{ThroughByProof}
 use Rattle.xrf_trace.specs.FormatByLevel.{MeetsFormat}
 use Rattle.xrf_trace.specs.Each.{Each}
 use Rattle.xrf_examples.specs.Making.{owner_of}
-use Rattle.xrf_laws.proofs.EveryRun.{of_choices}
-use Rattle.xrf_setup.specs.Scenario.{IsScen}
-use Rattle.xrf_long_runs.specs.KeypointsAndARingLogThatGoesRound.{scenario, choices, trace}
+use Rattle.xrf_long_runs.specs.KeypointsAndARingLogThatGoesRound.{scenario, trace}
 use Rattle.xrf_long_runs.proofs.Formats.{AllWriteOne, formats_of_one}
 use Rattle.xrf_long_runs.proofs.Updates.{AllBy, updates_over}
 use Rattle.xrf_long_runs.proofs.Silent.{AllBringNone, silent_throughout}
+use Rattle.xrf_long_runs.proofs.Promised.{Met, promised}
 use Rattle.xrf_long_runs.proofs.runs.keypoints_and_a_ring_log_that_goes_round.Goals as goal
 
 -- the first job from its sign-on to its stop, and the second from its sign-on on
@@ -80,8 +79,8 @@ returns-clause-safe c = record {
   format_by_level = record { meets = meets_format; format = formats_of_one scenario refl refl trace one_written };
 }
 
-in_ranges : IsScen scenario
-in_ranges = search rules
+tests_met : Met scenario trace
+tests_met = assumption
 
 pub returns-clause-keeps : goal.returns-clause-keeps
-returns-clause-keeps c = (of_choices scenario choices trace in_ranges refl (search rules)).1
+returns-clause-keeps c = promised scenario trace tests_met

@@ -1,5 +1,5 @@
--- Part by part: each computes to nothing, or to equations whose sides are the same.
-use Rattle.std.proofs.Common.{refl, rules}
+-- What is safe, part by part: each computes to nothing, or to equations whose sides are the same. What is promised, by tests.
+use Rattle.std.proofs.Common.{refl}
 use Rattle.xrf_trace.specs.OneUpdater.{OneUpdater}
 use Rattle.xrf_trace.specs.OwnHand.{OwnHand}
 use Rattle.xrf_trace.specs.FileIsBook.{FileIsBook}
@@ -9,10 +9,9 @@ use Rattle.xrf_trace.specs.ThroughByProof.{ThroughByProof}
 use Rattle.xrf_trace.specs.SilentOnceSeen.{SilentOnceSeen}
 use Rattle.xrf_trace.specs.FormatByLevel.{MeetsFormat}
 use Rattle.xrf_trace.specs.Each.{Each}
-use Rattle.xrf_laws.proofs.EveryRun.{of_choices}
-use Rattle.xrf_setup.specs.Scenario.{IsScen}
-use Rattle.xrf_long_runs.specs.TakeoverWithTheDefaultIntervals.{scenario, choices, trace}
+use Rattle.xrf_long_runs.specs.TakeoverWithTheDefaultIntervals.{scenario, trace}
 use Rattle.xrf_long_runs.proofs.Formats.{AllWriteOne, formats_of_one}
+use Rattle.xrf_long_runs.proofs.Promised.{Met, promised}
 use Rattle.xrf_long_runs.proofs.runs.takeover_with_the_default_intervals.Goals as goal
 
 one_updater : OneUpdater scenario trace
@@ -54,8 +53,8 @@ returns-clause-safe c = record {
   format_by_level = record { meets = meets_format; format = formats_of_one scenario refl refl trace one_written };
 }
 
-in_ranges : IsScen scenario
-in_ranges = search rules
+tests_met : Met scenario trace
+tests_met = assumption
 
 pub returns-clause-keeps : goal.returns-clause-keeps
-returns-clause-keeps c = (of_choices scenario choices trace in_ranges refl (search rules)).1
+returns-clause-keeps c = promised scenario trace tests_met

@@ -21,7 +21,7 @@ pub record Stands (job : Standby) (h : List Event) : Type 0 where
   -- it has been an alternate, and is none any more only from the CTLWRITE by which it was let through
   pub was : WasAlternate h
   pub through : job.is_through ≡ is_owner h
-  pub outside : inside job.settings h ≡ None → is_owner h ≡ false
+  pub at_boundary : inside job.settings h ≡ None → is_owner h ≡ false
   -- what it goes by, and what it does next
   pub mode : job.mode ≡ mode_of job.settings h
   pub decides : job.open_decision ≡ open_decision h

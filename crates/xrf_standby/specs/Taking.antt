@@ -21,7 +21,7 @@ IsInTime h _ = Unit {0}
 pub record CanTake (job : Standby) (h : List Event) (a : Answer) : Type 0 where
   pub stands : Stands job h
   -- it is not let through: from there on its `promote` takes the answers
-  pub waits : is_owner h ≡ false
+  pub not_through : is_owner h ≡ false
   -- the answer fits the act, or is of a tick or of a choice that reaches it
   pub fitting : may_take job.settings h a ≡ true
   -- beside its START it has taken fewer than 16,384 answers

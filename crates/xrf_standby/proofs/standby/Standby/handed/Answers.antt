@@ -10,29 +10,29 @@ use Rattle.xrf_standby.proofs.standby.Standby.handed.Goals as goal
 pub returns-in-MsgSlot-clause-stands : goal.returns-in-MsgSlot-clause-stands
 returns-in-MsgSlot-clause-stands c = λ h can.
     let p = c.args.self.now.settings in
-    taken _ p h _ _ c.in-MsgSlot.is (c.slot_read.ensures.stands h (place_of (next p h)) can.stands can.waits)
+    taken _ p h _ _ c.in-MsgSlot.is (c.slot_read.ensures.stands h (place_of (next p h)) can.stands can.not_through)
 
 pub returns-in-Failed-clause-stands : goal.returns-in-Failed-clause-stands
 returns-in-Failed-clause-stands c = λ h can.
     let p = c.args.self.now.settings in
     let fails = subst (λ (a : Answer). may_take p h a ≡ true) c.in-Failed.is can.fitting in
-    let read = fails_reading (next p h) (next_act p h can.stands.was can.waits) fails in
-    taken _ p h _ _ c.in-Failed.is (failed-act _ h _ _ _ read.1 (c.read_failed.ensures.stands h read.0 _ can.stands can.waits))
+    let read = fails_reading (next p h) (next_act p h can.stands.was can.not_through) fails in
+    taken _ p h _ _ c.in-Failed.is (failed-act _ h _ _ _ read.1 (c.read_failed.ensures.stands h read.0 _ can.stands can.not_through))
 
 pub returns-in-LogBlock-clause-stands : goal.returns-in-LogBlock-clause-stands
-returns-in-LogBlock-clause-stands c = λ h can. absurd (refused c.args.self.now.settings h _ _ c.in-LogBlock.is can.stands.was can.waits refl can.fitting)
+returns-in-LogBlock-clause-stands c = λ h can. absurd (refused c.args.self.now.settings h _ _ c.in-LogBlock.is can.stands.was can.not_through refl can.fitting)
 
 pub returns-in-Anchored-clause-stands : goal.returns-in-Anchored-clause-stands
-returns-in-Anchored-clause-stands c = λ h can. absurd (refused c.args.self.now.settings h _ _ c.in-Anchored.is can.stands.was can.waits refl can.fitting)
+returns-in-Anchored-clause-stands c = λ h can. absurd (refused c.args.self.now.settings h _ _ c.in-Anchored.is can.stands.was can.not_through refl can.fitting)
 
 pub returns-in-Gate-clause-stands : goal.returns-in-Gate-clause-stands
-returns-in-Gate-clause-stands c = λ h can. absurd (refused c.args.self.now.settings h _ _ c.in-Gate.is can.stands.was can.waits refl can.fitting)
+returns-in-Gate-clause-stands c = λ h can. absurd (refused c.args.self.now.settings h _ _ c.in-Gate.is can.stands.was can.not_through refl can.fitting)
 
 pub returns-in-FileSlot-clause-stands : goal.returns-in-FileSlot-clause-stands
-returns-in-FileSlot-clause-stands c = λ h can. absurd (refused c.args.self.now.settings h _ _ c.in-FileSlot.is can.stands.was can.waits refl can.fitting)
+returns-in-FileSlot-clause-stands c = λ h can. absurd (refused c.args.self.now.settings h _ _ c.in-FileSlot.is can.stands.was can.not_through refl can.fitting)
 
 pub returns-in-Item-clause-stands : goal.returns-in-Item-clause-stands
-returns-in-Item-clause-stands c = λ h can. absurd (refused c.args.self.now.settings h _ _ c.in-Item.is can.stands.was can.waits refl can.fitting)
+returns-in-Item-clause-stands c = λ h can. absurd (refused c.args.self.now.settings h _ _ c.in-Item.is can.stands.was can.not_through refl can.fitting)
 
 pub returns-in-Exit-clause-stands : goal.returns-in-Exit-clause-stands
-returns-in-Exit-clause-stands c = λ h can. absurd (refused c.args.self.now.settings h _ _ c.in-Exit.is can.stands.was can.waits refl can.fitting)
+returns-in-Exit-clause-stands c = λ h can. absurd (refused c.args.self.now.settings h _ _ c.in-Exit.is can.stands.was can.not_through refl can.fitting)

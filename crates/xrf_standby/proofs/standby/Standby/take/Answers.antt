@@ -3,4 +3,4 @@ use Rattle.xrf_standby.proofs.Answering.{ends_none}
 use Rattle.xrf_standby.proofs.standby.Standby.take.Goals as goal
 
 pub returns-clause-answer : goal.returns-clause-answer
-returns-clause-answer c = λ h can. sym (ends_none c.args.self.now.settings h c.args.answer.now can.stands.was can.waits can.fitting)
+returns-clause-answer c = λ h can. sym (ends_none c.args.self.now.settings h c.args.answer.now can.stands.was can.not_through can.fitting)

@@ -1,5 +1,5 @@
 -- Numbers in texts.
-use Rattle.std.proofs.Common.{◌≡◌, ◌≤◌, ◌<◌, ◌+◌, ◌*◌, ◌/◌, ◌%◌, [], ◌∷◌, ◌++◌, ◌^◌, ◌==◌, ◌||◌, not, ℕ, zero, suc, Bool, true, false, Some, List, length, refl, sym, ◌∙◌, ap, arith, rules, slice_index, get_or, add-one}
+use Rattle.std.proofs.Common.{subst, ◌≡◌, ◌≤◌, ◌<◌, ◌+◌, ◌*◌, ◌/◌, ◌%◌, [], ◌∷◌, ◌++◌, ◌^◌, ◌==◌, ◌||◌, not, ℕ, zero, suc, Bool, true, false, Some, List, length, refl, sym, ◌∙◌, ap, arith, rules, slice_index, get_or, add-one}
 use Rattle.std.proofs.lemmas.Option.{cond_some}
 use Rattle.std.proofs.lemmas.Bool.{eqb-true, eq-eqb, le-leb, leb-true, and_parts}
 use Rattle.std.specs.Cmp.Derive.{both_true}
@@ -91,10 +91,48 @@ number-of-decimal n fits =
     } in
     rw (whole, value) refl
 
--- what is written of a number below 10, and of its last digit behind the others
-pub one_digit : (out new : List ℕ) (n : ℕ) → n < 10 → new ≡ out ++ (48 + n) ∷ [] → new ≡ out ++ decimal n
-one_digit out new n low e = rw (decimal_digit n low) e
+-- the last three digits of a number, in place
+tens : (n : ℕ) → 10 ≤ n → n < 2 ^ 64 → decimal n ≡ decimal (n / 10) ++ (48 + n % 10) ∷ []
+tens n high small = decimal_step n high small
 
-pub last_digit : (out front new : List ℕ) (n : ℕ) → 10 ≤ n → n < 2 ^ 64 → front ≡ out ++ decimal (n / 10) → new ≡ front ++ (48 + n % 10) ∷ [] → new ≡ out ++ decimal n
-last_digit out front new n high small e f =
-    f ∙ ap (λ (l : List ℕ). l ++ (48 + n % 10) ∷ []) e ∙ append_assoc out (decimal (n / 10)) ((48 + n % 10) ∷ []) ∙ ap (λ (l : List ℕ). out ++ l) (sym (decimal_step n high small))
+-- what is written of a number of one, two and three digits, and of the last three of more
+pub one_digit : (out new : List ℕ) (n a : ℕ) → n < 10 → a ≡ 48 + n → new ≡ out ++ a ∷ [] → new ≡ out ++ decimal n
+one_digit out new n a low is e = rw (decimal_digit n low) (subst (λ (d : ℕ). new ≡ out ++ d ∷ []) is e)
+
+two-text : (n : ℕ) → 10 ≤ n → n < 100 → decimal n ≡ (48 + n / 10) ∷ (48 + n % 10) ∷ []
+two-text n high low = tens n high (omega arith) ∙ ap (λ (l : List ℕ). l ++ (48 + n % 10) ∷ []) (decimal_digit (n / 10) (omega arith))
+
+pub two_digits : (out new : List ℕ) (n a b : ℕ) → 10 ≤ n → n < 100 → a ≡ 48 + n / 10 → b ≡ 48 + n % 10 → new ≡ out ++ a ∷ b ∷ [] → new ≡ out ++ decimal n
+two_digits out new n a b high low p q e =
+    e ∙ ap (λ (d : ℕ). out ++ d ∷ b ∷ []) p ∙ ap (λ (d : ℕ). out ++ (48 + n / 10) ∷ d ∷ []) q ∙ ap (λ (l : List ℕ). out ++ l) (sym (two-text n high low))
+
+hundreds : (n : ℕ) → n / 10 / 10 ≡ n / 100
+hundreds n = omega arith
+
+three-text : (n : ℕ) → 100 ≤ n → n < 1000 → decimal n ≡ (48 + n / 100) ∷ (48 + n / 10 % 10) ∷ (48 + n % 10) ∷ []
+three-text n high low =
+    tens n (omega arith) (omega arith) ∙ ap (λ (l : List ℕ). l ++ (48 + n % 10) ∷ []) (two-text (n / 10) (omega arith) (omega arith))
+    ∙ ap (λ (k : ℕ). (48 + k) ∷ (48 + n / 10 % 10) ∷ (48 + n % 10) ∷ []) (hundreds n)
+
+pub three_digits : (out new : List ℕ) (n a b c : ℕ) → 100 ≤ n → n < 1000 → a ≡ 48 + n / 100 → b ≡ 48 + n / 10 % 10 → c ≡ 48 + n % 10 → new ≡ out ++ a ∷ b ∷ c ∷ [] → new ≡ out ++ decimal n
+three_digits out new n a b c high low p q r e =
+    e ∙ ap (λ (d : ℕ). out ++ d ∷ b ∷ c ∷ []) p ∙ ap (λ (d : ℕ). out ++ (48 + n / 100) ∷ d ∷ c ∷ []) q ∙ ap (λ (d : ℕ). out ++ (48 + n / 100) ∷ (48 + n / 10 % 10) ∷ d ∷ []) r
+    ∙ ap (λ (l : List ℕ). out ++ l) (sym (three-text n high low))
+
+-- the digits of the thousands, and the last three
+thousand-text : (n : ℕ) → 1000 ≤ n → n < 2 ^ 64 → decimal n ≡ decimal (n / 1000) ++ (48 + n / 100 % 10) ∷ (48 + n / 10 % 10) ∷ (48 + n % 10) ∷ []
+thousand-text n high small =
+    let first : n / 10 / 10 / 10 ≡ n / 1000 = omega arith in
+    tens n (omega arith) small ∙ ap (λ (l : List ℕ). l ++ (48 + n % 10) ∷ []) (tens (n / 10) (omega arith) (omega arith))
+    ∙ ap (λ (l : List ℕ). (l ++ (48 + n / 10 % 10) ∷ []) ++ (48 + n % 10) ∷ []) (tens (n / 10 / 10) (omega arith) (omega arith))
+    ∙ append_assoc (decimal (n / 10 / 10 / 10) ++ (48 + n / 10 / 10 % 10) ∷ []) ((48 + n / 10 % 10) ∷ []) ((48 + n % 10) ∷ [])
+    ∙ append_assoc (decimal (n / 10 / 10 / 10)) ((48 + n / 10 / 10 % 10) ∷ []) ((48 + n / 10 % 10) ∷ (48 + n % 10) ∷ [])
+    ∙ ap (λ (k : ℕ). decimal (n / 10 / 10 / 10) ++ (48 + k % 10) ∷ (48 + n / 10 % 10) ∷ (48 + n % 10) ∷ []) (hundreds n)
+    ∙ ap (λ (k : ℕ). decimal k ++ (48 + n / 100 % 10) ∷ (48 + n / 10 % 10) ∷ (48 + n % 10) ∷ []) first
+
+pub thousands : (out front new : List ℕ) (n a b c : ℕ) → 1000 ≤ n → n < 2 ^ 64 → front ≡ out ++ decimal (n / 1000) → a ≡ 48 + n / 100 % 10 → b ≡ 48 + n / 10 % 10 → c ≡ 48 + n % 10
+    → new ≡ front ++ a ∷ b ∷ c ∷ [] → new ≡ out ++ decimal n
+thousands out front new n a b c high small f p q r e =
+    e ∙ ap (λ (l : List ℕ). l ++ a ∷ b ∷ c ∷ []) f ∙ append_assoc out (decimal (n / 1000)) (a ∷ b ∷ c ∷ []) ∙ ap (λ (d : ℕ). out ++ (decimal (n / 1000) ++ d ∷ b ∷ c ∷ [])) p
+    ∙ ap (λ (d : ℕ). out ++ (decimal (n / 1000) ++ (48 + n / 100 % 10) ∷ d ∷ c ∷ [])) q ∙ ap (λ (d : ℕ). out ++ (decimal (n / 1000) ++ (48 + n / 100 % 10) ∷ (48 + n / 10 % 10) ∷ d ∷ [])) r
+    ∙ ap (λ (l : List ℕ). out ++ l) (sym (thousand-text n high small))

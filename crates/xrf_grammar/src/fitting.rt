@@ -21,6 +21,7 @@ fn keyword(part: Part) -> Option<Keyword>
 }
 
 /// The reason for which a word is wrong in the place of a keyword.
+#[inline(always)]
 pub(crate) fn fault_of_keyword(part: Part, word: &[u8]) -> Option<Reason>
     ensures { result ≡ wrong part word.now }
 {

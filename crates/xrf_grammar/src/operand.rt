@@ -36,12 +36,14 @@ pub(crate) fn read_class(word: &[u8]) -> Option<u8>
     }
 }
 
+#[inline(always)]
 fn fault_unless_kept(kept: bool, reason: Reason) -> Option<Reason>
     ensures { result ≡ fault_unless kept reason }
 {
     if kept { None } else { Some(reason) }
 }
 
+#[inline(always)]
 fn fault_in_range(least: u16, most: u16, word: &[u8]) -> Option<Reason>
     ensures { result ≡ range_fault least most word.now }
 {
@@ -51,6 +53,7 @@ fn fault_in_range(least: u16, most: u16, word: &[u8]) -> Option<Reason>
     fault_unless_kept(least <= number && number <= most, Reason::OutOfRange)
 }
 
+#[inline(always)]
 fn fault_in_multiple(least: u16, most: u16, unit: u16, word: &[u8]) -> Option<Reason>
     ensures { result ≡ multiple_fault least most unit word.now }
 {
@@ -73,6 +76,7 @@ fn is_multiple(number: u16, unit: u16) -> bool
 }
 
 /// What is wrong with a word in the place of a part that is no keyword.
+#[inline(always)]
 pub(crate) fn fault_of_operand(part: Part, word: &[u8]) -> Option<Reason>
     ensures { result ≡ operand_fault part word.now }
 {

@@ -20,6 +20,7 @@ fn torn(words: &[&[u8]]) -> Option<Landing>
 }
 
 // the choices that name a site alone, or a site and keywords
+#[inline(always)]
 fn choice_of_site(form: ChoiceForm, site: Site, words: &[&[u8]]) -> Option<Choice>
     ensures { result ≡ site_said form site (texts words.now) }
 {
@@ -43,6 +44,7 @@ fn choice_of_site(form: ChoiceForm, site: Site, words: &[&[u8]]) -> Option<Choic
 }
 
 /// The choice that a line of a form says, its count left out.
+#[inline(always)]
 fn say_choice(form: ChoiceForm, words: &[&[u8]]) -> Option<Choice>
     ensures { result ≡ choice_said form (texts words.now) }
 {
@@ -54,6 +56,7 @@ fn say_choice(form: ChoiceForm, words: &[&[u8]]) -> Option<Choice>
 }
 
 /// A choice with its count, where it has one.
+#[inline(always)]
 fn say_once(form: ChoiceForm, words: &[&[u8]]) -> Option<Line>
     ensures { result ≡ once_said form (texts words.now) }
 {
@@ -66,6 +69,7 @@ fn say_once(form: ChoiceForm, words: &[&[u8]]) -> Option<Line>
 }
 
 // the item of a line of work, whose operands stand from the fourth word on
+#[inline(always)]
 fn say_item(form: ItemForm, words: &[&[u8]]) -> Option<Item>
     ensures { result ≡ item_said form (texts words.now) }
 {
@@ -97,6 +101,7 @@ fn say_item(form: ItemForm, words: &[&[u8]]) -> Option<Item>
     }
 }
 
+#[inline(always)]
 fn say_work(form: ItemForm, words: &[&[u8]]) -> Option<Line>
     ensures { result ≡ work_said form (texts words.now) }
 {
@@ -125,6 +130,7 @@ fn say_level(words: &[&[u8]]) -> Option<Line>
     Some(Line::Level(site, read_number(third(words))?))
 }
 
+#[inline(always)]
 fn say_record(words: &[&[u8]]) -> Option<Line>
     ensures { result ≡ record_said (texts words.now) }
 {
@@ -133,6 +139,7 @@ fn say_record(words: &[&[u8]]) -> Option<Line>
 }
 
 /// What a line of a form says.
+#[inline(always)]
 pub(crate) fn say(form: Form, words: &[&[u8]]) -> Option<Line>
     ensures { result ≡ said form (texts words.now) }
 {

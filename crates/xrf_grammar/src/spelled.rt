@@ -18,6 +18,7 @@ use xrf_setup::Format;
 use xrf_text::LineWords;
 
 /// Whether a word is of a part.
+#[inline(always)]
 #[tactic(auto, using(crate::proofs::FormLaws::part_found))]
 fn is_of_part(part: Part, word: &[u8]) -> bool
     ensures { IsTrue result → IsOfPart part word.now }
@@ -73,6 +74,7 @@ fn form_of(forms: &[Form], line_words: &[&[u8]]) -> Option<Form>
 }
 
 /// The line that some words spell by the first of these forms that they are of.
+#[inline(always)]
 #[tactic(auto, using(crate::proofs::SpelledLaws::spelled_by))]
 fn spelled(forms: &[Form], line_words: &[&[u8]]) -> Option<Line>
     ensures { IfSome result (λ says. Spells forms.now (texts line_words.now) says) }

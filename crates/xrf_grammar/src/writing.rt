@@ -32,24 +32,43 @@ pub(crate) fn put_text(out: &mut Vec<u8>, text: &[u8]) -> Result<(), AllocError>
 }
 
 // the digit of a number below 10
-#[inline(always)]
-fn put_digit(out: &mut Vec<u8>, number: u64) -> Result<(), AllocError>
+fn decimal_digit(number: u64) -> u8
     requires { number < 10 }
-    ensures { OnOk result (out.new.items ≡ out.old.items ++ (48 + number) ∷ []) }
+    ensures { result ≡ 48 + number }
 {
-    out.push(b'0' + number as u8)?;
-    Ok(())
+    b'0' + number as u8
 }
 
-#[tactic(auto, using(crate::proofs::NumberLaws::one_digit, crate::proofs::NumberLaws::last_digit))]
+// up to three digits at once, behind those of the thousands
+#[tactic(auto, using(crate::proofs::NumberLaws::one_digit, crate::proofs::NumberLaws::two_digits, crate::proofs::NumberLaws::three_digits, crate::proofs::NumberLaws::thousands))]
+fn put_digits(out: &mut Vec<u8>, number: u64) -> Result<(), AllocError>
+    ensures { OnOk result (out.new.items ≡ out.old.items ++ decimal number) }
+{
+    if number < 10 {
+        return put_text(out, &[decimal_digit(number)]);
+    }
+    let one = decimal_digit(number % 10);
+    if number < 100 {
+        return put_text(out, &[decimal_digit(number / 10), one]);
+    }
+    let ten = decimal_digit(number / 10 % 10);
+    if number < 1000 {
+        return put_text(out, &[decimal_digit(number / 100), ten, one]);
+    }
+    put_digits(out, number / 1000)?;
+    put_text(out, &[decimal_digit(number / 100 % 10), ten, one])
+}
+
+// a number of one digit, as most are, is written in place
+#[inline(always)]
+#[tactic(auto, using(crate::proofs::NumberLaws::one_digit))]
 fn put_number(out: &mut Vec<u8>, number: u64) -> Result<(), AllocError>
     ensures { OnOk result (out.new.items ≡ out.old.items ++ decimal number) }
 {
     if number < 10 {
-        return put_digit(out, number);
+        return put_text(out, &[decimal_digit(number)]);
     }
-    put_number(out, number / 10)?;
-    put_digit(out, number % 10)
+    put_digits(out, number)
 }
 
 // the digit of a number below 16
@@ -95,62 +114,33 @@ fn put_many(out: &mut Vec<u8>, pieces: &[Piece]) -> Result<(), AllocError>
     Ok(())
 }
 
-// The first pieces are written in a row, with no loop: where a call is inlined, each is then a few
-// moves of known lengths.
-#[inline(always)]
-fn put_fifth(out: &mut Vec<u8>, pieces: &[Piece]) -> Result<(), AllocError>
-    ensures { OnOk result (out.new.items ≡ out.old.items ++ pieces_text pieces.now) }
-{
-    let [piece, more @ ..] = pieces else {
-        return Ok(());
-    };
-    put_piece(out, piece)?;
-    put_many(out, more)
-}
-
-#[inline(always)]
-fn put_fourth(out: &mut Vec<u8>, pieces: &[Piece]) -> Result<(), AllocError>
-    ensures { OnOk result (out.new.items ≡ out.old.items ++ pieces_text pieces.now) }
-{
-    let [piece, more @ ..] = pieces else {
-        return Ok(());
-    };
-    put_piece(out, piece)?;
-    put_fifth(out, more)
-}
-
-#[inline(always)]
-fn put_third(out: &mut Vec<u8>, pieces: &[Piece]) -> Result<(), AllocError>
-    ensures { OnOk result (out.new.items ≡ out.old.items ++ pieces_text pieces.now) }
-{
-    let [piece, more @ ..] = pieces else {
-        return Ok(());
-    };
-    put_piece(out, piece)?;
-    put_fourth(out, more)
-}
-
-#[inline(always)]
-fn put_second(out: &mut Vec<u8>, pieces: &[Piece]) -> Result<(), AllocError>
-    ensures { OnOk result (out.new.items ≡ out.old.items ++ pieces_text pieces.now) }
-{
-    let [piece, more @ ..] = pieces else {
-        return Ok(());
-    };
-    put_piece(out, piece)?;
-    put_third(out, more)
-}
-
-/// Appends the pieces to a text.
+/// Appends the pieces to a text. The first five are written in a row with no loop: where a call is
+/// inlined, each is then a few moves of known lengths.
 #[inline(always)]
 pub fn put(alloc: Global, out: &mut Vec<u8>, pieces: &[Piece]) -> Result<(), AllocError>
     ensures { OnOk result (out.new.items ≡ out.old.items ++ pieces_text pieces.now) }
 {
-    let [piece, more @ ..] = pieces else {
+    let [first, more @ ..] = pieces else {
         return Ok(());
     };
-    put_piece(out, piece)?;
-    put_second(out, more)
+    put_piece(out, first)?;
+    let [second, more @ ..] = more else {
+        return Ok(());
+    };
+    put_piece(out, second)?;
+    let [third, more @ ..] = more else {
+        return Ok(());
+    };
+    put_piece(out, third)?;
+    let [fourth, more @ ..] = more else {
+        return Ok(());
+    };
+    put_piece(out, fourth)?;
+    let [fifth, more @ ..] = more else {
+        return Ok(());
+    };
+    put_piece(out, fifth)?;
+    put_many(out, more)
 }
 
 /// The word of a site.

@@ -114,7 +114,7 @@ fn put_many(out: &mut Vec<u8>, pieces: &[Piece]) -> Result<(), AllocError>
     Ok(())
 }
 
-/// Appends the pieces to a text. The first five are written in a row with no loop: where a call is
+/// Appends the pieces to a text. The first six are written in a row with no loop: where a call is
 /// inlined, each is then a few moves of known lengths.
 #[inline(always)]
 pub fn put(alloc: Global, out: &mut Vec<u8>, pieces: &[Piece]) -> Result<(), AllocError>
@@ -140,6 +140,10 @@ pub fn put(alloc: Global, out: &mut Vec<u8>, pieces: &[Piece]) -> Result<(), All
         return Ok(());
     };
     put_piece(out, fifth)?;
+    let [sixth, more @ ..] = more else {
+        return Ok(());
+    };
+    put_piece(out, sixth)?;
     put_many(out, more)
 }
 

@@ -170,11 +170,11 @@ impl<'a> Reading<'a> {
         requires { IsSaid (said self.old) }
         ensures { Tells result (said self.new) (step forms number (said self.old) line.now) }
     {
-        if let Some(choice) = self.choice_again(line) {
-            return self.take_once(forms, number, choice);
-        }
         if is_skipped(line) {
             return Ok(());
+        }
+        if let Some(choice) = self.choice_again(line) {
+            return self.take_once(forms, number, choice);
         }
         if is_whole(self.part) {
             if is_report(line) {

@@ -12,3 +12,6 @@ mod taking;
 
 pub use standby::Standby;
 pub use xrf_active::{Active, Answer, EndWhy, Rooms, Settings, Want};
+
+#[cfg(test)]
+mod tests;

@@ -1,3 +1,5 @@
+//! Runs of the job of an alternate: the acts that it wants, and what it is handed.
+
 ghost use Rattle.std.specs.Prelude.{◌≡◌, ◌+◌, ◌≤◌, true, List, length, IfOk};
 ghost use Rattle.xrf_history.specs.Events.{Event};
 ghost use Rattle.xrf_history.specs.declared.settings.Settings.{Settings as Set};

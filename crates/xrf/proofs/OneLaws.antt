@@ -3,16 +3,15 @@ use Rattle.std.proofs.Common.{String, ◌≡◌, ◌⊎◌, inl, inr, ℕ, Bool,
 use Rattle.std.specs.Global.{Global}
 use Rattle.xrf_edge.specs.Faults.{HasRisen}
 use Rattle.xrf_setup.specs.Scenario.{Scen}
-use Rattle.xrf_scenario.specs.declared.built.Forms.TheVariants.{Built}
+use Rattle.xrf_scenario.specs.declared.built.Forms.TheVariants.{All}
 use Rattle.xrf_scenario.specs.declared.numbered.Numbered.{Numbered}
 use Rattle.xrf_scenario.proofs.ReadingLaws.{one_reading, never_both, one_fault}
-use Rattle.xrf_world.specs.Base.{base_of}
-use Rattle.xrf_world.specs.declared.entry.Entry.{Entry}
-use Rattle.xrf_world.specs.Runs.{run, Refusal}
+use Rattle.xrf_trace.specs.declared.entry.Entry.{Entry}
+use Rattle.xrf_trace.specs.Runs.{run, Refusal}
 use Rattle.xrf_report.specs.Document.{doc}
 use Rattle.xrf.specs.Refusals.{plain, Stops}
-use Rattle.xrf_world.specs.declared.entry.Refused.{Refused as Why}
-use Rattle.xrf_world.specs.declared.entry.Refused.TheVariants.{NotEnabled}
+use Rattle.xrf_trace.specs.declared.entry.Refused.{Refused as Why}
+use Rattle.xrf_trace.specs.declared.entry.Refused.TheVariants.{NotEnabled}
 use Rattle.xrf.specs.Made.{IsDocument}
 use Rattle.xrf.specs.Answer.{End, Replayed, ToldUsage, Answered, Complete, OneText, OneRefusal, NeverRefused}
 use Rattle.xrf.specs.declared.refusal.Reason.TheVariants.{Grammar, Choosing}
@@ -20,19 +19,19 @@ use Rattle.xrf.specs.declared.status.Status.{Status}
 use Rattle.xrf.specs.declared.status.Status.TheVariants.{Done, Refused, Usage, ReadFault, WriteFault, NoMemory}
 
 -- two readings of a text run alike
-same_run : (s s' : Scen) (cs cs' : List Numbered) → s ≡ s' → cs ≡ cs' → run (base_of s) (plain cs) ≡ run (base_of s') (plain cs')
-same_run s s' cs cs' is are = ap (λ (t : Scen). run (base_of t) (plain cs)) is ∙ ap (λ (l : List Numbered). run (base_of s') (plain l)) are
+same_run : (s s' : Scen) (cs cs' : List Numbered) → s ≡ s' → cs ≡ cs' → run s (plain cs) ≡ run s' (plain cs')
+same_run s s' cs cs' is are = ap (λ (t : Scen). run t (plain cs)) is ∙ ap (λ (l : List Numbered). run s' (plain l)) are
 
 pub one_text : OneText
 one_text bytes text text' d d' =
-    let same = one_reading Built bytes d.scenario d'.scenario d.choices d'.choices d.reads d'.reads in
+    let same = one_reading All bytes d.scenario d'.scenario d.choices d'.choices d.reads d'.reads in
     d.document ∙ ap (λ (t : Scen). doc t (plain d.choices)) same.0 ∙ ap (λ (l : List Numbered). doc d'.scenario (plain l)) same.1 ∙ sym d'.document
 
 pub never_refused : NeverRefused
 never_refused bytes text number (Grammar reason) d (inl large) = omega (arith, d.size, large.0)
-never_refused bytes text number (Grammar reason) d (inr r) = never_both Built bytes d.scenario d.choices number reason d.reads r.1
+never_refused bytes text number (Grammar reason) d (inr r) = never_both All bytes d.scenario d.choices number reason d.reads r.1
 never_refused bytes text number (Choosing reason) d r =
-    let same = one_reading Built bytes d.scenario r.1.scenario d.choices r.1.choices d.reads r.1.reads in
+    let same = one_reading All bytes d.scenario r.1.scenario d.choices r.1.choices d.reads r.1.reads in
     let clash = sym d.is_run ∙ same_run d.scenario r.1.scenario d.choices r.1.choices same.0 same.1 ∙ r.1.stopped in
     cc
 
@@ -48,7 +47,7 @@ reason_in (Err stopped) = stopped.reason
 -- a run stops at one choice
 one_stop : (bytes : List ℕ) (number number' : ℕ) (reason reason' : Why) → Stops bytes number reason → Stops bytes number' reason' → (number ≡ number') × (reason ≡ reason')
 one_stop bytes number number' reason reason' a b =
-    let same = one_reading Built bytes a.scenario b.scenario a.choices b.choices a.reads b.reads in
+    let same = one_reading All bytes a.scenario b.scenario a.choices b.choices a.reads b.reads in
     let ends = sym a.stopped ∙ same_run a.scenario b.scenario a.choices b.choices same.0 same.1 ∙ b.stopped in
     let places : a.place ≡ b.place = ap place_in ends in
     let reasons : reason ≡ reason' = ap reason_in ends in
@@ -62,11 +61,11 @@ one_refusal bytes number number' (Grammar reason) (Grammar reason') (inl a) (inl
 one_refusal bytes number number' (Grammar reason) (Grammar reason') (inl a) (inr b) = absurd (omega (arith, a.0, b.0))
 one_refusal bytes number number' (Grammar reason) (Grammar reason') (inr a) (inl b) = absurd (omega (arith, a.0, b.0))
 one_refusal bytes number number' (Grammar reason) (Grammar reason') (inr a) (inr b) =
-    let same = one_fault Built bytes number number' reason reason' a.1 b.1 in (same.0, ap Grammar same.1)
+    let same = one_fault All bytes number number' reason reason' a.1 b.1 in (same.0, ap Grammar same.1)
 one_refusal bytes number number' (Grammar reason) (Choosing reason') (inl a) b = absurd (omega (arith, a.0, b.0))
-one_refusal bytes number number' (Grammar reason) (Choosing reason') (inr a) b = absurd (never_both Built bytes b.1.scenario b.1.choices number reason b.1.reads a.1)
+one_refusal bytes number number' (Grammar reason) (Choosing reason') (inr a) b = absurd (never_both All bytes b.1.scenario b.1.choices number reason b.1.reads a.1)
 one_refusal bytes number number' (Choosing reason) (Grammar reason') a (inl b) = absurd (omega (arith, a.0, b.0))
-one_refusal bytes number number' (Choosing reason) (Grammar reason') a (inr b) = absurd (never_both Built bytes a.1.scenario a.1.choices number' reason' a.1.reads b.1)
+one_refusal bytes number number' (Choosing reason) (Grammar reason') a (inr b) = absurd (never_both All bytes a.1.scenario a.1.choices number' reason' a.1.reads b.1)
 one_refusal bytes number number' (Choosing reason) (Choosing reason') a b =
     let same = one_stop bytes number number' reason reason' a.1 b.1 in (same.0, ap Choosing same.1)
 

@@ -2,11 +2,13 @@
 use Rattle.std.specs.Prelude.{◌≡◌, ℕ, ◌≤◌, List, length, Result, Ok, Err}
 use Rattle.xrf_setup.specs.Scenario.{Scen}
 use Rattle.xrf_scenario.specs.Reading.{Reads}
-use Rattle.xrf_scenario.specs.declared.built.Forms.TheVariants.{Built}
+use Rattle.xrf_scenario.specs.declared.built.Forms.TheVariants.{All}
 use Rattle.xrf_scenario.specs.declared.numbered.Numbered.{Numbered}
-use Rattle.xrf_world.specs.declared.entry.Entry.{Entry}
-use Rattle.xrf_world.specs.Base.{base_of}
-use Rattle.xrf_world.specs.Runs.{run, Run}
+use Rattle.xrf_trace.specs.declared.entry.Entry.{Entry}
+use Rattle.xrf_trace.specs.Runs.{run}
+use Rattle.xrf_trace.specs.Safe.{Safe}
+use Rattle.xrf_trace.specs.Promises.{Promises}
+use Rattle.xrf_world.specs.Runs.{Run}
 use Rattle.xrf_report.specs.Document.{doc}
 use Rattle.xrf_setup.specs.declared.ranges.TheConstants.{INPUT_MOST}
 use Rattle.xrf.specs.Refusals.{plain, IsRefusal}
@@ -15,14 +17,17 @@ use Rattle.xrf.specs.declared.running.Stop.{Stop}
 use Rattle.xrf.specs.declared.made.Made.{Made}
 use Rattle.xrf.specs.declared.made.Made.TheVariants.{Document, Refusal, NoMemory}
 
--- The bytes spell a scenario and choices, the choices are a run, and the text is their document.
+-- THE HEADLINE of an input: its bytes spell a scenario and choices, the choices are a run, its trace is safe and keeps the
+-- promises, and the text is their document.
 pub record IsDocument (bytes text : List ℕ) : Type 0 where
   pub scenario : Scen
   pub choices : List Numbered
   pub size : length bytes ≤ INPUT_MOST
-  pub reads : Reads Built bytes scenario choices
+  pub reads : Reads All bytes scenario choices
   pub trace : List Entry
-  pub is_run : run (base_of scenario) (plain choices) ≡ Ok trace
+  pub is_run : run scenario (plain choices) ≡ Ok trace
+  pub safe : Safe scenario trace
+  pub keeps : Promises scenario trace
   pub document : text ≡ doc scenario (plain choices)
 
 -- All choices of a run were made, and the World has its trace; or the run stops at one.

@@ -6,16 +6,15 @@ ghost use Rattle.xrf_scenario.specs.declared.numbered.Numbered.{Numbered};
 ghost use Rattle.xrf.specs.declared.made.Made.TheVariants.{Refusal};
 ghost use Rattle.xrf.specs.declared.refusal.Reason.TheVariants.{Choosing};
 ghost use Rattle.xrf.specs.Refusals.{plain};
-ghost use Rattle.xrf_scenario.specs.Built.{IsBuilt, AreBuilt};
 ghost use Rattle.xrf_scenario.specs.Canonical.{AreChoices};
 ghost use Rattle.xrf_scenario.specs.Reading.{Reads};
-ghost use Rattle.xrf_scenario.specs.declared.built.Forms.TheVariants.{Built};
+ghost use Rattle.xrf_scenario.specs.declared.built.Forms.TheVariants.{All};
 
 use crate::refusal::Reason;
 use crate::running::{Stop, make_all};
 use std::alloc::{AllocError, Global};
 use xrf_report::document;
-use xrf_scenario::{Choice, Forms, Numbered, ReadBad, Scenario, read_forms};
+use xrf_scenario::{Choice, Numbered, ReadBad, Scenario, read};
 use xrf_setup::ranges::INPUT_MOST;
 use xrf_world::World;
 
@@ -50,8 +49,7 @@ fn stopped(numbered: &[Numbered], stop: Stop) -> Made
 // the document of a scenario and its choices, or the refusal of one of them
 fn ran(alloc: Global, scenario: &Scenario, numbered: &[Numbered]) -> Result<Made, AllocError>
     requires choices { AreChoices (plain numbered.now) }
-    requires built { IsBuilt scenario.now × AreBuilt (plain numbered.now) }
-    ensures { (bytes : List ℕ) → length bytes ≤ INPUT_MOST → Reads Built bytes scenario.now numbered.now → IfOk result (IsMade bytes) }
+    ensures { (bytes : List ℕ) → length bytes ≤ INPUT_MOST → Reads All bytes scenario.now numbered.now → IfOk result (IsMade bytes) }
 {
     let choices = plain(alloc, numbered)?;
     let mut world = World::new(alloc, scenario)?;
@@ -65,7 +63,7 @@ fn made_of_text(alloc: Global, text: &[u8]) -> Result<Made, AllocError>
     requires { length text.now ≤ INPUT_MOST }
     ensures { IfOk result (IsMade text.now) }
 {
-    match read_forms(alloc, Forms::Built, text) {
+    match read(alloc, text) {
         Ok((scenario, numbered)) => ran(alloc, &scenario, &numbered),
         Err(ReadBad::Bad { line, reason }) => Ok(Made::Refusal(line, Reason::Grammar(reason))),
         Err(ReadBad::NoMemory) => Ok(Made::NoMemory),

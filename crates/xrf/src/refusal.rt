@@ -7,7 +7,7 @@ use Piece::{Number, Text};
 use std::alloc::{AllocError, Global};
 use xrf_grammar::writing::{Piece, put};
 use xrf_scenario::Reason as Fault;
-use xrf_world::Refused;
+use xrf_trace::Refused;
 
 /// Why an input is refused.
 #[derive(Clone, Copy)]
@@ -55,6 +55,9 @@ fn choosing_word(refused: Refused) -> &'static [u8]
 {
     match refused {
         Refused::NotEnabled => b"NOT-ENABLED",
+        Refused::Dishonest => b"DISHONEST",
+        Refused::TornLength => b"TORN-LENGTH",
+        Refused::NotAllowed => b"NOT-ALLOWED",
     }
 }
 

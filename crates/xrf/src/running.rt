@@ -5,7 +5,8 @@ ghost use Rattle.xrf.specs.Made.{RunGives};
 
 use xrf_scenario::Choice;
 use xrf_setup::ranges::CHOICES_MOST;
-use xrf_world::{Refused, World};
+use xrf_trace::Refused;
+use xrf_world::World;
 
 /// The choice at which a run stops, by its place from 0, and why.
 #[derive(Clone, Copy)]

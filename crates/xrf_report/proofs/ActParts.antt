@@ -1,113 +1,218 @@
 -- What is printed of acts and of what they hold is a part of a line.
-use Rattle.std.proofs.Common.{ℕ, List, ◌++◌, codes, Option, Some, None, refl, arith}
-use Rattle.std.specs.Fmt.{decimal}
-use Rattle.xrf_base.specs.declared.items.UnitId.{UnitId}
+use Rattle.std.proofs.Common.{◌≡◌, ◌≤◌, ℕ, Bool, true, false, nat_le, inl, inr, List, codes, length, Option, Some, None, refl, arith}
+use Rattle.std.specs.List.{list_all}
 use Rattle.xrf_base.specs.declared.site.Site.{Site}
 use Rattle.xrf_base.specs.declared.site.Site.TheVariants.{A as SiteA, B as SiteB}
-use Rattle.xrf_grammar.specs.Spelling.{site_word}
-use Rattle.xrf_report.specs.Acts.{who_text, owner_state_text, owner_text, control_text, signal_text, decided_text, unit_text, log_text, act_text, entry_text}
-use Rattle.xrf_report.specs.Fits.{OwnerFits, ControlFits, SignalFits, UnitFits, LogFits, ActFits, EntryFits}
-use Rattle.xrf_report.specs.Words.{blank, dot}
-use Rattle.xrf_report.proofs.Parts.{IsPart, word, wider, joined, behind-blank, behind-dot, number, value}
-use Rattle.xrf_world.specs.declared.act.Act.{Act}
-use Rattle.xrf_world.specs.declared.act.Act.TheVariants.{StartActive, Reserve, CtlRead, CtlWrite, Release, Signal1, Signal2, Look1, Look2, Decide, LogRead, LogBody, LogOpen, FileRead, FileWrite, Item, Restarted}
-use Rattle.xrf_world.specs.declared.act.Control.{Control}
-use Rattle.xrf_world.specs.declared.act.Owner.{Owner}
-use Rattle.xrf_world.specs.declared.act.OwnerState.{OwnerState}
-use Rattle.xrf_world.specs.declared.act.OwnerState.TheVariants.{Running}
-use Rattle.xrf_world.specs.declared.act.Signal.{Signal}
-use Rattle.xrf_world.specs.declared.act.Decided.{Decided}
-use Rattle.xrf_world.specs.declared.act.Decided.TheVariants.{Nothing}
-use Rattle.xrf_world.specs.declared.act.LogRec.{LogRec}
-use Rattle.xrf_world.specs.declared.act.LogRec.TheVariants.{Put, Commit}
-use Rattle.xrf_world.specs.declared.entry.Who.{Who}
-use Rattle.xrf_world.specs.declared.entry.Who.TheVariants.{A, B, Env}
-use Rattle.xrf_world.specs.declared.entry.Entry.{Entry}
+use Rattle.xrf_base.specs.declared.items.UnitId.{UnitId}
+use Rattle.xrf_base.specs.declared.site.Takeovr.TheVariants.{Auto, Manual, Command}
+use Rattle.xrf_cavm.specs.declared.decisions.Why.{Why}
+use Rattle.xrf_cavm.specs.declared.decisions.Why.TheVariants as why
+use Rattle.xrf_cavm.specs.declared.decisions.Decision.{Decision}
+use Rattle.xrf_cavm.specs.declared.decisions.Decision.TheVariants as decision
+use Rattle.xrf_cavm.specs.declared.decisions.Waiting.{Waiting}
+use Rattle.xrf_cavm.specs.declared.decisions.Waiting.TheVariants as waiting
+use Rattle.xrf_cavm.specs.declared.decisions.Acting.{Acting}
+use Rattle.xrf_cavm.specs.declared.decisions.Acting.TheVariants as acting
+use Rattle.xrf_cavm.specs.declared.decisions.Decided.{Decided}
+use Rattle.xrf_cavm.specs.declared.decisions.Decided.TheVariants.{Alternate, Waiting as Waits, Owner as Owns}
+use Rattle.xrf_cebt.specs.Command.{command_text, switch_word}
+use Rattle.xrf_cebt.specs.Reply.{reply_text}
+use Rattle.xrf_cebt.specs.declared.commands.Cebt.{Cebt as Order}
+use Rattle.xrf_cebt.specs.declared.commands.Cebt.TheVariants.{PerformTakeover, PerformShutdown, InquireTakeover, InquireSurveillance, SetTakeover, SetSurveillance}
+use Rattle.xrf_cebt.specs.declared.replies.CebtReply.{CebtReply}
+use Rattle.xrf_cebt.specs.declared.replies.CebtReply.TheVariants.{TakeoverAccepted, ShutdownAccepted, InProgress, TakeoverMode, Surveillance}
+use Rattle.xrf_ctl.specs.Control.{ControlRecord, IsControl, IsGiven, IsFormat, OwnerFits, AltFits, TakingFits}
+use Rattle.xrf_ctl.specs.Signal.{SignalRecord}
+use Rattle.xrf_ctl.specs.declared.parts.Owner.{Owner}
+use Rattle.xrf_ctl.specs.declared.parts.OwnerState.{OwnerState}
+use Rattle.xrf_ctl.specs.declared.parts.OwnerState.TheVariants.{Running, OffNormal, OffAbend, OffTakeover}
+use Rattle.xrf_ctl.specs.declared.parts.Alt.{Alt}
+use Rattle.xrf_ctl.specs.declared.parts.Taking.{Taking}
+use Rattle.xrf_ctl.specs.declared.parts.Cause.{Cause}
+use Rattle.xrf_ctl.specs.declared.parts.Cause.TheVariants as cause
+use Rattle.xrf_exit.specs.declared.ExitAnswer.{ExitAnswer}
+use Rattle.xrf_exit.specs.declared.ExitAnswer.TheVariants as answer
+use Rattle.xrf_grammar.specs.Spelling.{site_word, answer_word}
+use Rattle.xrf_history.specs.declared.want.EndWhy.{EndWhy}
+use Rattle.xrf_history.specs.declared.want.EndWhy.TheVariants as end
+use Rattle.xrf_logrec.specs.declared.keypoints.Keypoint.{Keypoint}
+use Rattle.xrf_logrec.specs.declared.records.LogRec.{LogRec}
+use Rattle.xrf_logrec.specs.declared.records.LogRec.TheVariants.{Put, Commit, Backout}
+use Rattle.xrf_msg.specs.declared.messages.Message.{Message}
+use Rattle.xrf_msg.specs.declared.messages.Message.TheVariants.{Begin, Term, End, User}
+use Rattle.xrf_setup.specs.declared.format.Format.{Format}
+use Rattle.xrf_setup.specs.declared.format.Format.TheVariants.{One, Two}
+use Rattle.xrf_report.specs.Records.{state_word, cause_word, owner_text, alt_text, taking_text, format_text, control_text}
+use Rattle.xrf_report.specs.Messages.{user_text, place_text, terminal_text, message_text}
+use Rattle.xrf_report.specs.Logged.{unit_text, log_text, keypoint_text}
+use Rattle.xrf_report.specs.Decisions.{leave_word, decision_text, waiting_word, acting_text, decided_text, ending_text}
+use Rattle.xrf_report.specs.Acts.{go_word, signal_text}
+use Rattle.xrf_report.specs.Fits.{Is32, SignalFits, UserFits, TerminalFits, MessageFits, UnitFits, LogFits, KeypointFits, ActingFits, DecidedFits, EndingFits}
+use Rattle.xrf_report.proofs.Parts.{IsPart, word, no-byte, within, joined, behind-blank, behind-dot, number, long-number, name}
 
-site-part : (site : Site) → IsPart 1 (site_word site)
+-- a word of at most so many bytes
+short-word : (text : List ℕ) (most : ℕ) → nat_le (length text) most ≡ true → list_all (nat_le 32) text ≡ true → IsPart most text
+short-word text most few passed = within most few (word text passed)
+
+pub site-part : (site : Site) → IsPart 1 (site_word site)
 site-part SiteA = word (codes "A") refl
 site-part SiteB = word (codes "B") refl
 
-who-part : (who : Who) → IsPart 1 (who_text who)
-who-part A = word (codes "A") refl
-who-part B = word (codes "B") refl
-who-part Env = word (codes "-") refl
+state-part : (state : OwnerState) → IsPart 8 (state_word state)
+state-part Running = short-word (codes "RUNNING") 8 refl refl
+state-part OffNormal = short-word (codes "NORMAL") 8 refl refl
+state-part OffAbend = short-word (codes "ABEND") 8 refl refl
+state-part OffTakeover = short-word (codes "TAKEOVER") 8 refl refl
 
-owner_state-part : (state : OwnerState) → IsPart 7 (owner_state_text state)
-owner_state-part Running = word (codes "RUNNING") refl
+cause-part : (c : Cause) → IsPart 8 (cause_word c)
+cause-part cause.Lost = short-word (codes "LOST") 8 refl refl
+cause-part cause.Abend = short-word (codes "ABEND") 8 refl refl
+cause-part cause.Shutdown = short-word (codes "SHUTDOWN") 8 refl refl
+cause-part cause.Command = short-word (codes "COMMAND") 8 refl refl
 
-owner-part : (owner : Option Owner) → OwnerFits owner → IsPart 30 (owner_text owner)
-owner-part None fits = wider 4 30 (codes "NONE") (omega arith) (word (codes "NONE") refl)
-owner-part (Some owner) fits =
-    joined 20 10 (decimal owner.inc) (dot (site_word owner.site ++ dot (owner_state_text owner.state))) (number owner.inc fits)
-    (behind-dot 9 (site_word owner.site ++ dot (owner_state_text owner.state))
-    (joined 1 8 (site_word owner.site) (dot (owner_state_text owner.state)) (site-part owner.site) (behind-dot 7 (owner_state_text owner.state) (owner_state-part owner.state))))
+-- an incarnation that was given is a number of 32 bits
+given-fits : (last inc : ℕ) → Is32 last → IsGiven last inc → Is32 inc
+given-fits last inc low given = let few : inc ≤ last = given.1 in omega (arith, low, few)
+
+owner-part : (last : ℕ) (owner : Option Owner) → Is32 last → OwnerFits last owner → IsPart 21 (owner_text owner)
+owner-part last None low fits = short-word (codes "NONE") 21 refl refl
+owner-part last (Some owner) low fits =
+    joined (joined (number owner.inc (given-fits last owner.inc low fits)) (behind-dot (site-part owner.site))) (behind-dot (state-part owner.state))
+
+alt-part : (last : ℕ) (owner : Option Owner) (alt : Option Alt) → Is32 last → AltFits last owner alt → IsPart 12 (alt_text alt)
+alt-part last owner None low fits = short-word (codes "NONE") 12 refl refl
+alt-part last None (Some alt) low fits = absurd fits
+alt-part last (Some owner) (Some alt) low fits = joined (number alt.inc (given-fits last alt.inc low fits.0)) (behind-dot (site-part alt.site))
+
+taking-part : (last : ℕ) (alt : Option Alt) (taking : Option Taking) → Is32 last → TakingFits last alt taking → IsPart 19 (taking_text taking)
+taking-part last alt None low fits = short-word (codes "NONE") 19 refl refl
+taking-part last None (Some taking) low fits = absurd fits
+taking-part last (Some alt) (Some taking) low fits = joined (number taking.inc (given-fits last taking.inc low fits.0)) (behind-dot (cause-part taking.cause))
+
+format-fits : (format : ℕ) → IsFormat format → Is32 format
+format-fits format (inl is) = omega (arith, is)
+format-fits format (inr is) = omega (arith, is)
+
+format-part : (xrf : Format) (format : ℕ) → IsFormat format → IsPart 18 (format_text xrf format)
+format-part One format is = within 18 refl no-byte
+format-part Two format is = joined (word (codes " FORMAT ") refl) (number format (format-fits format is))
 
 -- what is printed of a control record is a part
-pub control-part : (control : Control) → ControlFits control → IsPart 78 (control_text control)
-control-part control fits =
-    joined 57 21 (decimal control.last ++ codes " OWNER " ++ owner_text control.owner) (codes " ALT NONE TAKING NONE")
-    (joined 27 30 (decimal control.last ++ codes " OWNER ") (owner_text control.owner)
-    (joined 20 7 (decimal control.last) (codes " OWNER ") (number control.last fits.0) (word (codes " OWNER ") refl)) (owner-part control.owner fits.1))
-    (word (codes " ALT NONE TAKING NONE") refl)
+pub control-part : (xrf : Format) (r : ControlRecord) → IsControl r → IsPart 100 (control_text xrf r)
+control-part xrf r is =
+    joined
+    (joined
+    (joined
+    (joined
+    (joined
+    (joined (joined (number r.last is.last) (word (codes " OWNER ") refl)) (owner-part r.last r.owner is.last is.rule.owner))
+    (word (codes " ALT ") refl))
+    (alt-part r.last r.owner r.alt is.last is.rule.alt))
+    (word (codes " TAKING ") refl))
+    (taking-part r.last r.alt r.taking is.last is.rule.taking))
+    (format-part xrf r.format is.format)
 
-signal-part : (signal : Signal) → SignalFits signal → IsPart 41 (signal_text signal)
-signal-part signal fits = joined 20 21 (decimal signal.counter) (blank (decimal signal.cursor)) (number signal.counter fits.0) (behind-blank 20 (decimal signal.cursor) (number signal.cursor fits.1))
+pub user-part : (user : Option (List ℕ)) → UserFits user → IsPart 8 (user_text user)
+user-part None fits = short-word (codes "-") 8 refl refl
+user-part (Some user) fits = name user fits
 
-decided-part : (decided : Decided) → IsPart 7 (decided_text decided)
-decided-part Nothing = word (codes "NOTHING") refl
+place-part : (epoch seq : ℕ) → Is32 epoch → Is32 seq → IsPart 21 (place_text epoch seq)
+place-part epoch seq of-epoch of-seq = joined (number epoch of-epoch) (behind-blank (number seq of-seq))
 
-unit-part : (unit : UnitId) → UnitFits unit → IsPart 41 (unit_text unit)
-unit-part unit fits = joined 20 21 (decimal unit.inc) (dot (decimal unit.serial)) (number unit.inc fits.0) (behind-dot 20 (decimal unit.serial) (number unit.serial fits.1))
+on-part : (on : Bool) → IsPart 3 (switch_word on)
+on-part true = short-word (codes "ON") 3 refl refl
+on-part false = short-word (codes "OFF") 3 refl refl
 
-log-part : (rec : LogRec) → LogFits rec → IsPart 66 (log_text rec)
-log-part (Put unit n) fits =
-    joined 45 21 (codes "PUT " ++ unit_text unit) (blank (decimal n)) (joined 4 41 (codes "PUT ") (unit_text unit) (word (codes "PUT ") refl) (unit-part unit fits.0))
-    (behind-blank 20 (decimal n) (number n fits.1))
-log-part (Commit unit) fits =
-    wider 48 66 (codes "COMMIT " ++ unit_text unit) (omega arith) (joined 7 41 (codes "COMMIT ") (unit_text unit) (word (codes "COMMIT ") refl) (unit-part unit fits))
+terminal-part : (epoch seq : ℕ) (term : List ℕ) (class : ℕ) (on : Bool) → TerminalFits epoch seq term class → IsPart 45 (terminal_text epoch seq term class on)
+terminal-part epoch seq term class on fits =
+    joined (joined (joined (place-part epoch seq fits.0 fits.1) (behind-blank (name term fits.2))) (behind-blank (number class fits.3))) (behind-blank (on-part on))
 
--- a word is a part of at most 97 bytes
-plain-word : (text : List ℕ) → IsPart 12 text → IsPart 97 text
-plain-word text part = wider 12 97 text (omega arith) part
+pub message-part : (message : Message) → MessageFits message → IsPart 59 (message_text message)
+message-part (Begin epoch) fits = within 59 refl (joined (word (codes "BEGIN ") refl) (number epoch fits))
+message-part (Term epoch seq term class on) fits = within 59 refl (joined (word (codes "TERM ") refl) (terminal-part epoch seq term class on fits))
+message-part (End epoch seq) fits = within 59 refl (joined (word (codes "END ") refl) (place-part epoch seq fits.0 fits.1))
+message-part (User epoch seq term class on user) fits =
+    joined (joined (word (codes "USER ") refl) (terminal-part epoch seq term class on fits.0)) (behind-blank (user-part user fits.1))
 
-logged-part : (name : List ℕ) (place : ℕ) (rec : LogRec) → IsPart 8 name → ActFits (LogBody place rec) → IsPart 97 (name ++ decimal place ++ blank (log_text rec))
-logged-part name place rec part fits =
-    wider 95 97 (name ++ decimal place ++ blank (log_text rec)) (omega arith)
-    (joined 28 67 (name ++ decimal place) (blank (log_text rec)) (joined 8 20 name (decimal place) part (number place fits.0)) (behind-blank 66 (log_text rec) (log-part rec fits.1)))
+pub unit-part : (unit : UnitId) → UnitFits unit → IsPart 21 (unit_text unit)
+unit-part unit fits = joined (number unit.inc fits.0) (behind-dot (number unit.serial fits.1))
 
--- what is printed of an act is a part
-pub act-part : (act : Act) → ActFits act → IsPart 97 (act_text act)
-act-part StartActive fits = plain-word (codes "START ACTIVE") (word (codes "START ACTIVE") refl)
-act-part Reserve fits = wider 7 97 (codes "RESERVE") (omega arith) (word (codes "RESERVE") refl)
-act-part CtlRead fits = wider 7 97 (codes "CTLREAD") (omega arith) (word (codes "CTLREAD") refl)
-act-part (CtlWrite control) fits =
-    wider 87 97 (codes "CTLWRITE " ++ control_text control) (omega arith) (joined 9 78 (codes "CTLWRITE ") (control_text control) (word (codes "CTLWRITE ") refl) (control-part control fits))
-act-part Release fits = wider 7 97 (codes "RELEASE") (omega arith) (word (codes "RELEASE") refl)
-act-part (Signal1 signal) fits =
-    wider 49 97 (codes "SIGNAL1 " ++ signal_text signal) (omega arith) (joined 8 41 (codes "SIGNAL1 ") (signal_text signal) (word (codes "SIGNAL1 ") refl) (signal-part signal fits))
-act-part (Signal2 signal) fits =
-    wider 49 97 (codes "SIGNAL2 " ++ signal_text signal) (omega arith) (joined 8 41 (codes "SIGNAL2 ") (signal_text signal) (word (codes "SIGNAL2 ") refl) (signal-part signal fits))
-act-part Look1 fits = wider 5 97 (codes "LOOK1") (omega arith) (word (codes "LOOK1") refl)
-act-part Look2 fits = wider 5 97 (codes "LOOK2") (omega arith) (word (codes "LOOK2") refl)
-act-part (Decide decided) fits =
-    wider 14 97 (codes "DECIDE " ++ decided_text decided) (omega arith) (joined 7 7 (codes "DECIDE ") (decided_text decided) (word (codes "DECIDE ") refl) (decided-part decided))
-act-part (LogRead block) fits = wider 28 97 (codes "LOGREAD " ++ decimal block) (omega arith) (joined 8 20 (codes "LOGREAD ") (decimal block) (word (codes "LOGREAD ") refl) (number block fits))
-act-part (LogBody place rec) fits = logged-part (codes "LOGBODY ") place rec (word (codes "LOGBODY ") refl) fits
-act-part (LogOpen place rec) fits = logged-part (codes "LOGOPEN ") place rec (word (codes "LOGOPEN ") refl) fits
-act-part (FileRead n) fits = wider 29 97 (codes "FILEREAD " ++ decimal n) (omega arith) (joined 9 20 (codes "FILEREAD ") (decimal n) (word (codes "FILEREAD ") refl) (number n fits))
-act-part (FileWrite unit n text) fits =
-    joined 51 46 (codes "FILEWRITE " ++ unit_text unit) (blank (decimal n ++ blank text))
-    (joined 10 41 (codes "FILEWRITE ") (unit_text unit) (word (codes "FILEWRITE ") refl) (unit-part unit fits.0))
-    (behind-blank 45 (decimal n ++ blank text) (joined 20 25 (decimal n) (blank text) (number n fits.1) (behind-blank 24 text (value text fits.2))))
-act-part (Item n) fits = wider 25 97 (codes "ITEM " ++ decimal n) (omega arith) (joined 5 20 (codes "ITEM ") (decimal n) (word (codes "ITEM ") refl) (number n fits))
-act-part Restarted fits = wider 9 97 (codes "RESTARTED") (omega arith) (word (codes "RESTARTED") refl)
+pub log-part : (rec : LogRec) → LogFits rec → IsPart 36 (log_text rec)
+log-part (Put unit rrn before) fits = joined (joined (word (codes "PUT ") refl) (unit-part unit fits.0)) (behind-blank (number rrn fits.1))
+log-part (Commit unit) fits = within 36 refl (joined (word (codes "COMMIT ") refl) (unit-part unit fits))
+log-part (Backout unit) fits = within 36 refl (joined (word (codes "BACKOUT ") refl) (unit-part unit fits))
 
--- what is printed of an entry is a part
-pub entry-part : (e : Entry) → EntryFits e → IsPart 141 (entry_text e)
-entry-part e fits =
-    joined 20 121 (decimal e.tick) (blank (who_text e.who ++ blank (decimal e.inc ++ blank (act_text e.act)))) (number e.tick fits.0)
-    (behind-blank 120 (who_text e.who ++ blank (decimal e.inc ++ blank (act_text e.act)))
-    (joined 1 119 (who_text e.who) (blank (decimal e.inc ++ blank (act_text e.act))) (who-part e.who)
-    (behind-blank 118 (decimal e.inc ++ blank (act_text e.act))
-    (joined 20 98 (decimal e.inc) (blank (act_text e.act)) (number e.inc fits.1) (behind-blank 97 (act_text e.act) (act-part e.act fits.2))))))
+pub keypoint-part : (keypoint : Keypoint) → KeypointFits keypoint → IsPart 36 (keypoint_text keypoint)
+keypoint-part keypoint fits =
+    joined (joined (joined (word (codes "KEYPOINT ") refl) (number keypoint.number fits.0)) (word (codes " START ") refl)) (number keypoint.start fits.1)
+
+leave-part : (reason : Why) → IsPart 8 (leave_word reason)
+leave-part why.Shutdown = short-word (codes "SHUTDOWN") 8 refl refl
+leave-part why.Dropped = short-word (codes "DROPPED") 8 refl refl
+leave-part why.Normal = short-word (codes "NORMAL") 8 refl refl
+
+decision-part : (d : Decision) → IsPart 18 (decision_text d)
+decision-part decision.Nothing = short-word (codes "NOTHING") 18 refl refl
+decision-part decision.Ask = short-word (codes "ASK") 18 refl refl
+decision-part (decision.Start cause) = within 18 refl (joined (word (codes "START ") refl) (cause-part cause))
+decision-part (decision.Leave reason) = within 18 refl (joined (word (codes "END ") refl) (leave-part reason))
+
+waiting-part : (w : Waiting) → IsPart 18 (waiting_word w)
+waiting-part waiting.Wait = short-word (codes "WAIT") 18 refl refl
+waiting-part waiting.Through = short-word (codes "THROUGH") 18 refl refl
+
+acting-part : (a : Acting) → ActingFits a → IsPart 18 (acting_text a)
+acting-part acting.Nothing fits = short-word (codes "NOTHING") 18 refl refl
+acting-part acting.Seen fits = short-word (codes "SEEN") 18 refl refl
+acting-part (acting.CatchUp inc) fits = joined (word (codes "CATCHUP ") refl) (number inc fits)
+acting-part acting.Forget fits = short-word (codes "FORGET") 18 refl refl
+acting-part acting.Lost fits = short-word (codes "LOST") 18 refl refl
+
+pub decided-part : (d : Decided) → DecidedFits d → IsPart 18 (decided_text d)
+decided-part (Alternate d) fits = decision-part d
+decided-part (Waits w) fits = waiting-part w
+decided-part (Owns a) fits = acting-part a fits
+
+pub ending-part : (reason : EndWhy) → EndingFits reason → IsPart 18 (ending_text reason)
+ending-part (end.Refused inc) fits = joined (word (codes "REFUSED ") refl) (number inc fits)
+ending-part end.NoActive fits = short-word (codes "NOACTIVE") 18 refl refl
+ending-part end.SignedOff fits = short-word (codes "SIGNEDOFF") 18 refl refl
+ending-part end.Dropped fits = short-word (codes "DROPPED") 18 refl refl
+ending-part end.Normal fits = short-word (codes "NORMAL") 18 refl refl
+ending-part end.Shutdown fits = short-word (codes "SHUTDOWN") 18 refl refl
+ending-part end.Abandoned fits = short-word (codes "ABANDONED") 18 refl refl
+ending-part end.MsgError fits = short-word (codes "MSGERROR") 18 refl refl
+ending-part end.Format fits = short-word (codes "FORMAT") 18 refl refl
+
+pub signal-part : (signal : SignalRecord) → SignalFits signal → IsPart 31 (signal_text signal)
+signal-part signal fits = joined (long-number signal.counter fits.0) (behind-blank (number signal.cursor fits.1))
+
+pub go-part : (go : Bool) → IsPart 6 (go_word go)
+go-part true = short-word (codes "GO") 6 refl refl
+go-part false = short-word (codes "IGNORE") 6 refl refl
+
+pub exit-part : (said : ExitAnswer) → IsPart 5 (answer_word said)
+exit-part answer.Abend = short-word (codes "ABEND") 5 refl refl
+exit-part answer.Keep = short-word (codes "KEEP") 5 refl refl
+exit-part answer.Drop = short-word (codes "DROP") 5 refl refl
+
+pub command-part : (command : Order) → IsPart 20 (command_text command)
+command-part PerformTakeover = short-word (codes "PERFORM TAKEOVER") 20 refl refl
+command-part PerformShutdown = short-word (codes "PERFORM SHUTDOWN") 20 refl refl
+command-part InquireTakeover = short-word (codes "INQUIRE TAKEOVER") 20 refl refl
+command-part InquireSurveillance = short-word (codes "INQUIRE SURVEILLANCE") 20 refl refl
+command-part (SetTakeover Auto) = short-word (codes "SET TAKEOVER AUTO") 20 refl refl
+command-part (SetTakeover Manual) = short-word (codes "SET TAKEOVER MANUAL") 20 refl refl
+command-part (SetTakeover Command) = short-word (codes "SET TAKEOVER COMMAND") 20 refl refl
+command-part (SetSurveillance true) = short-word (codes "SET SURVEILLANCE ON") 20 refl refl
+command-part (SetSurveillance false) = short-word (codes "SET SURVEILLANCE OFF") 20 refl refl
+
+pub reply-part : (reply : CebtReply) → IsPart 20 (reply_text reply)
+reply-part TakeoverAccepted = short-word (codes "TAKEOVER ACCEPTED") 20 refl refl
+reply-part ShutdownAccepted = short-word (codes "SHUTDOWN ACCEPTED") 20 refl refl
+reply-part InProgress = short-word (codes "TAKEOVER IN PROGRESS") 20 refl refl
+reply-part (TakeoverMode Auto) = short-word (codes "TAKEOVER AUTO") 20 refl refl
+reply-part (TakeoverMode Manual) = short-word (codes "TAKEOVER MANUAL") 20 refl refl
+reply-part (TakeoverMode Command) = short-word (codes "TAKEOVER COMMAND") 20 refl refl
+reply-part (Surveillance true) = short-word (codes "SURVEILLANCE ON") 20 refl refl
+reply-part (Surveillance false) = short-word (codes "SURVEILLANCE OFF") 20 refl refl

@@ -1,66 +1,121 @@
 -- What is read of a document, and how long it is.
-use Rattle.std.proofs.Common.{◌≡◌, ◌≤◌, ◌<◌, ◌+◌, ℕ, List, ◌++◌, length, Result, Ok, IfOk, sym, ap, ◌∙◌, arith, subst}
-use Rattle.std.proofs.lemmas.List.{length-append}
-use Rattle.xrf_setup.specs.declared.choice.Choice.{Choice}
+use Rattle.std.proofs.Common.{◌≡◌, ◌≤◌, ◌<◌, ◌+◌, ◌*◌, ℕ, suc, refl, List, [], ◌∷◌, ◌++◌, length, map, reverse, Result, Ok, Err, OnOk, sym, ap, ◌∙◌, subst, arith}
+use Rattle.std.specs.List.{AllByRecursion}
+use Rattle.std.proofs.lemmas.Grind.{flat_map-append}
+use Rattle.std.proofs.lemmas.List.{length-append, length-reverse, length-map, append_assoc}
+use Rattle.xrf_base.specs.declared.site.Site.TheVariants.{A, B}
+use Rattle.xrf_grammar.specs.LineText.{line_text}
+use Rattle.xrf_grammar.specs.Spelling.{choice_text}
+use Rattle.xrf_grammar.specs.declared.line.Line.TheVariants.{Choices, End}
 use Rattle.xrf_scenario.proofs.CanonLaws.{read_again}
-use Rattle.xrf_scenario.proofs.PlainLaws.{file-most}
-use Rattle.xrf_scenario.proofs.WorkLaws.{unit-length}
-use Rattle.xrf_scenario.specs.Built.{AreAllowed}
-use Rattle.xrf_scenario.specs.Work.{puts_in}
-use Rattle.xrf_scenario.specs.Canonical.{canon, at_lines, AreChoices}
+use Rattle.xrf_scenario.specs.Canonical.{fed, text_of, scenario_lines, choice_lines, canon, at_lines, AreChoices, IsReport}
 use Rattle.xrf_scenario.specs.Reading.{Reads}
 use Rattle.xrf_setup.specs.Scenario.{Scen, IsScen}
-use Rattle.xrf_scenario.specs.declared.built.Forms.TheVariants.{Built}
-use Rattle.xrf_world.specs.Base.{Base, base_of}
-use Rattle.xrf_world.specs.Runs.{run, IsRun, Refusal}
-use Rattle.xrf_world.specs.Trace.{taken}
-use Rattle.xrf_world.specs.declared.entry.Entry.{Entry}
-use Rattle.xrf_world.proofs.RunLaws.{runs_are_runs, taken_within}
+use Rattle.xrf_setup.specs.declared.choice.Choice.{Choice}
+use Rattle.xrf_trace.specs.Devices.{image}
+use Rattle.xrf_trace.specs.Runs.{run, Refusal}
+use Rattle.xrf_trace.specs.declared.entry.Entry.{Entry}
 use Rattle.xrf_report.specs.Document.{doc, document_of, ReadsAgain}
-use Rattle.xrf_report.specs.Fits.{ReportFits}
-use Rattle.xrf_report.specs.Report.{report}
-use Rattle.xrf_report.proofs.ReportLaws.{IsTold, report_most, report-told}
-use Rattle.xrf_report.proofs.SizeLaws.{canon-size}
+use Rattle.xrf_report.specs.Entries.{acts_text}
+use Rattle.xrf_report.specs.Files.{file_text}
+use Rattle.xrf_report.specs.Fits.{EntryFits}
+use Rattle.xrf_report.specs.Report.{taken_text, standing_text, images_if, report}
+use Rattle.xrf_report.specs.ReportFits.{ReportFits}
+use Rattle.xrf_report.specs.Standing.{done_line}
+use Rattle.xrf_report.proofs.ActLaws.{Makes, AreTold, runs-make, acts-told}
+use Rattle.xrf_report.proofs.ImageLaws.{grown-by}
+use Rattle.xrf_report.proofs.Lines.{both-lines}
+use Rattle.xrf_report.proofs.ReportLaws.{behind_acts, behind-acts-told}
+use Rattle.xrf_report.proofs.ScenarioSize.{scenario-size}
 
--- what is written of a run is its document
-pub is-doc : (s : Scen) (choices : List Choice) (base : Base) (t : List Entry) (canonical text : List ℕ) → base ≡ base_of s → run (base_of s) choices ≡ Ok t → canonical ≡ canon s choices
-    → text ≡ canonical ++ report base t → text ≡ doc s choices
-is-doc s choices base t canonical text same ran first whole =
-    whole ∙ ap (λ (c : List ℕ). c ++ report base t) first ∙ ap (λ (b : Base). canon s choices ++ report b t) same ∙ sym (ap (document_of s choices) ran)
+-- as many entries as choices
+made-length : (s : Scen) (cs : List Choice) (es : List Entry) → Makes s cs es → length es ≡ length cs
+made-length s [] [] made = refl
+made-length s (c ∷ cs) (e ∷ es) made = ap (λ (n : ℕ). suc n) (made-length s cs es made.1)
+made-length s [] (e ∷ es) made = absurd made
+made-length s (c ∷ cs) [] made = absurd made
 
--- a run is as long as its choices, and its items are items of the work
-run-short : (s : Scen) (choices : List Choice) (t : List Entry) → run (base_of s) choices ≡ Ok t → IsRun (base_of s) t × (length t ≡ length choices)
-run-short s choices t ran = subst (λ (r : Result (List Entry) Refusal). IfOk r (λ (u : List Entry). IsRun (base_of s) u × (length u ≡ length choices))) ran (runs_are_runs (base_of s) choices)
-
--- The report of a run of choices that a text can hold is lines that may stand behind END.
-pub run-told : (s : Scen) (choices : List Choice) (t : List Entry) → IsScen s → AreChoices choices → AreAllowed Built s choices → run (base_of s) choices ≡ Ok t
-    → ReportFits (base_of s) t → IsTold report_most (report (base_of s) t)
-run-told s choices t is are built ran fits =
-    let runs = run-short s choices t ran in
-    let long : length t ≡ length choices = runs.1 in
+-- the entries of a run, as lines
+run-told : (s : Scen) (choices : List Choice) (t : List Entry) → IsScen s → AreChoices choices → run s choices ≡ Ok t → ReportFits s t
+    → AreTold s 1 choices (reverse t) × (length (reverse t) ≡ length choices)
+run-told s choices t is are ran fits =
+    let made = runs-make s [] 0 choices t ran in
+    let same : reverse t ≡ made.0 = made.1.1 in
+    let makes : Makes s choices (reverse t) = subst (Makes s choices) (sym same) made.1.0 in
+    let long = made-length s choices (reverse t) makes in
     let few : length choices ≤ 8192 = are.few in
-    let within : taken t ≤ length s.work_a = taken_within (base_of s) t runs.0 in
-    let sized : length s.work_a ≤ puts_in s.work_a + 2 = unit-length s.work_a built.0.work_a in
-    let items : length s.work_a ≤ 62 = omega (arith, sized, built.0.puts) in
-    report-told (base_of s) t (omega arith) (omega arith) (file-most s is) fits
+    (acts-told s 1 choices (reverse t) is (omega arith) are.each fits.entries makes, long)
+
+-- a report is its acts, and what stands behind them
+report-parts : (s : Scen) (t : List Entry) → report s t ≡ acts_text s 1 (reverse t) ++ behind_acts s t
+report-parts s t =
+    let acts = acts_text s 1 (reverse t) in
+    let a = taken_text s t A in
+    let b = taken_text s t B in
+    let standing = standing_text s t in
+    let file = file_text (image s t) s.settings.file in
+    let images = images_if s.settings.images s t in
+    ap (λ (r : List ℕ). r ++ standing ++ file ++ images ++ done_line) (append_assoc acts a b)
+    ∙ ap (λ (r : List ℕ). r ++ file ++ images ++ done_line) (append_assoc acts (a ++ b) standing)
+    ∙ ap (λ (r : List ℕ). r ++ images ++ done_line) (append_assoc acts (a ++ b ++ standing) file)
+    ∙ ap (λ (r : List ℕ). r ++ done_line) (append_assoc acts (a ++ b ++ standing ++ file) images)
+    ∙ append_assoc acts (a ++ b ++ standing ++ file ++ images) done_line
 
 -- a document, by its parts
-document-parts : (s : Scen) (choices : List Choice) (t : List Entry) → run (base_of s) choices ≡ Ok t → doc s choices ≡ canon s choices ++ report (base_of s) t
+document-parts : (s : Scen) (choices : List Choice) (t : List Entry) → run s choices ≡ Ok t → doc s choices ≡ canon s choices ++ report s t
 document-parts s choices t ran = ap (document_of s choices) ran
 
+-- A report is lines that may stand behind END.
+report-lines : (s : Scen) (choices : List Choice) (t : List Entry) → IsScen s → AreChoices choices → run s choices ≡ Ok t → ReportFits s t → IsReport (report s t)
+report-lines s choices t is are ran fits =
+    subst IsReport (sym (report-parts s t)) (both-lines (run-told s choices t is are ran fits).0.report (behind-acts-told s t is fits).report)
+
 -- A document is read again as what it is written of, each choice at its line.
-pub document-again : (s : Scen) (choices : List Choice) (t : List Entry) (text : List ℕ) → IsScen s → AreChoices choices
-    → run (base_of s) choices ≡ Ok t → IsTold report_most (report (base_of s) t) → text ≡ doc s choices → ReadsAgain s choices text
-document-again s choices t text is are ran told same forms allowed =
-    subst (λ (bytes : List ℕ). Reads forms bytes s (at_lines s choices)) (sym (same ∙ document-parts s choices t ran))
-    (read_again forms s choices (report (base_of s) t) is are allowed told.report)
+pub document-again : (s : Scen) (choices : List Choice) (t : List Entry) → IsScen s → AreChoices choices → run s choices ≡ Ok t → ReportFits s t
+    → ReadsAgain s choices (doc s choices)
+document-again s choices t is are ran fits forms allowed =
+    subst (λ (bytes : List ℕ). Reads forms bytes s (at_lines s choices)) (sym (document-parts s choices t ran))
+    (read_again forms s choices (report s t) is are allowed (report-lines s choices t is are ran fits))
+
+-- how long the lines of the choices are
+choices-length : (choices : List Choice) → length (text_of (choice_lines choices)) ≡ 12 + length (text_of (map choice_text choices))
+choices-length choices =
+    let end : List (List ℕ) = line_text End ∷ [] in
+    let whole : length (text_of (map choice_text choices ++ end)) ≡ length (text_of (map choice_text choices)) + length (text_of end) =
+    ap length (flat_map-append fed (map choice_text choices) end) ∙ length-append (text_of (map choice_text choices)) (text_of end) in
+    let head : length (fed (line_text Choices) ++ text_of (map choice_text choices ++ end)) ≡ length (fed (line_text Choices)) + length (text_of (map choice_text choices ++ end)) =
+    length-append (fed (line_text Choices)) (text_of (map choice_text choices ++ end)) in
+    omega arith
 
 -- A document has fewer bytes than an input may have.
-pub document-short : (s : Scen) (choices : List Choice) (t : List Entry) (text : List ℕ) → IsScen s → AreChoices choices
-    → run (base_of s) choices ≡ Ok t → IsTold report_most (report (base_of s) t) → text ≡ doc s choices → length text < 4194304
-document-short s choices t text is are ran told same =
-    let canonical = canon-size s choices is are in
-    let few : length (report (base_of s) t) ≤ report_most = told.short in
-    let whole : length text ≡ length (canon s choices ++ report (base_of s) t) = ap length (same ∙ document-parts s choices t ran) in
-    let sum : length (canon s choices ++ report (base_of s) t) ≡ length (canon s choices) + length (report (base_of s) t) = length-append (canon s choices) (report (base_of s) t) in
+pub document-short : (s : Scen) (choices : List Choice) (t : List Entry) → IsScen s → AreChoices choices → run s choices ≡ Ok t → ReportFits s t
+    → length (doc s choices) < 4194304
+document-short s choices t is are ran fits =
+    let told = run-told s choices t is are ran fits in
+    let few : length choices ≤ 8192 = are.few in
+    let long : length (reverse t) ≡ length choices = told.1 in
+    let acts : length (text_of (map choice_text choices)) + length (acts_text s 1 (reverse t)) ≤ 398 * length (reverse t) = told.0.short in
+    let rest : length (behind_acts s t) ≤ 406636 = (behind-acts-told s t is fits).short in
+    let scenario = scenario-size s is in
+    let made = choices-length choices in
+    let whole : length (doc s choices) ≡ length (canon s choices) + length (report s t) =
+    ap length (document-parts s choices t ran) ∙ length-append (canon s choices) (report s t) in
+    let canonical : length (canon s choices) ≡ length (text_of (scenario_lines s)) + length (text_of (choice_lines choices)) =
+    length-append (text_of (scenario_lines s)) (text_of (choice_lines choices)) in
+    let reported : length (report s t) ≡ length (acts_text s 1 (reverse t)) + length (behind_acts s t) =
+    ap length (report-parts s t) ∙ length-append (acts_text s 1 (reverse t)) (behind_acts s t) in
     omega arith
+
+-- a report that was written up to its last line
+abbrev pub before_done : Scen → List Entry → List ℕ
+before_done s t =
+    acts_text s 1 (reverse t) ++ taken_text s t A ++ taken_text s t B ++ standing_text s t ++ file_text (image s t) s.settings.file ++ images_if s.settings.images s t
+
+pub report-done : (start : List ℕ) (s : Scen) (t : List Entry) {before new : List ℕ} → new ≡ before ++ done_line → before ≡ start ++ before_done s t → new ≡ start ++ report s t
+report-done start s t {before} {new} grew was = grown-by start (before_done s t) done_line grew was
+
+pub report-ok : {T E : Type 0} (r : Result T E) (start before new : List ℕ) (s : Scen) (t : List Entry) → OnOk r (new ≡ before ++ done_line)
+    → before ≡ start ++ before_done s t
+    → OnOk r (new ≡ start ++ report s t)
+report-ok (Ok done) start before new s t grew was = report-done start s t grew was
+report-ok (Err why) start before new s t grew was = tt

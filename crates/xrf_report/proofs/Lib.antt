@@ -1,5 +1,12 @@
 pub mod Parts
 pub mod ActParts
+pub mod MadeParts
+pub mod Lines
+pub mod ActLaws
+pub mod ScenarioSize
+pub mod RowLaws
+pub mod ImageLaws
+pub mod StandingLaws
+pub mod ImagesTold
 pub mod ReportLaws
-pub mod SizeLaws
 pub mod DocumentLaws

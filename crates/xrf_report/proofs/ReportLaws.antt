@@ -1,173 +1,134 @@
--- The report is lines that may stand behind END, so many bytes at most.
-use Rattle.std.proofs.Common.{◌≡◌, ◌≤◌, ◌+◌, ◌*◌, ℕ, zero, suc, List, [], ◌∷◌, ◌++◌, length, reverse, codes, Option, Some, None, refl, sym, ap, ◌∙◌, arith}
-use Rattle.std.proofs.lemmas.Grind.{flat_map-append}
-use Rattle.std.proofs.lemmas.List.{length-append, length-reverse, append-nil}
+-- A report is lines that may stand behind END, and so many bytes.
+use Rattle.std.proofs.Common.{◌≡◌, ◌≤◌, ◌<◌, ◌+◌, ◌*◌, ◌/◌, ◌%◌, ℕ, zero, suc, Bool, true, false, nat_le, List, [], ◌∷◌, ◌++◌, codes, length, Option, Some, None, refl, arith}
 use Rattle.std.specs.Fmt.{decimal}
-use Rattle.std.specs.List.{AllByRecursion}
-use Rattle.xrf_base.specs.declared.items.ItemAnswer.{ItemAnswer}
-use Rattle.xrf_base.specs.declared.items.ItemAnswer.TheVariants.{Done, Got, Empty, Locked, LogFull, NotOpen, NameUsed, UnitsFull, BadRrn, TermUsed, TermsFull, NotOn, UserOn, NoUser}
-use Rattle.xrf_scenario.specs.Canonical.{fed, text_of, IsReportLine, IsReport}
-use Rattle.xrf_world.specs.Base.{Base}
-use Rattle.xrf_world.specs.Items.{answer, state_of}
-use Rattle.xrf_world.specs.Trace.{taken, control, job, log_counts, image}
-use Rattle.xrf_world.specs.declared.entry.Entry.{Entry}
-use Rattle.xrf_world.specs.declared.state.JobState.{JobState}
-use Rattle.xrf_world.specs.declared.state.JobState.TheVariants.{Absent, Starting, Restarting, Active}
+use Rattle.std.specs.List.{list_all}
+use Rattle.std.proofs.Math.Nat.{mul-suc}
+use Rattle.xrf_base.specs.declared.site.Site.{Site}
+use Rattle.xrf_base.specs.declared.site.Site.TheVariants.{A, B}
+use Rattle.xrf_world.specs.Report.{item_state, job_state, table_at, log_counts}
 use Rattle.xrf_world.specs.declared.state.ItemState.{ItemState}
-use Rattle.xrf_world.specs.declared.state.ItemState.TheVariants.{Answered, Pending}
-use Rattle.xrf_world.specs.declared.state.LogCounts.{LogCounts}
-use Rattle.xrf_report.specs.Acts.{entry_text, control_text}
-use Rattle.xrf_report.specs.Fits.{Is64, EntryFits, AnswerFits, StateFits, ItemsFit, JobFits, CountsFit, RecordFits, RecordsFit, StandingFits, ReportFits}
-use Rattle.xrf_report.specs.Report.{line, acts_text, answer_text, state_text, item_line, items_text, job_text, log_counts_text, file_line, file_text, standing_text, report}
-use Rattle.xrf_report.specs.Words.{blank}
-use Rattle.xrf_report.proofs.Parts.{IsPart, all-both, word, wider, joined, behind-blank, number, value}
-use Rattle.xrf_report.proofs.ActParts.{control-part, entry-part}
-
--- lines of a report, so many bytes at most
-pub record IsTold (most : ℕ) (text : List ℕ) : Type 0 where
-  pub report : IsReport text
-  pub short : length text ≤ most
-
--- no line is lines of a report
-nothing : IsTold 0 []
-nothing = record { report = record { lines = []; each = tt; fed = refl }; short = omega arith }
-
--- what is told is told where more bytes are allowed
-told-wider : (most more : ℕ) (text : List ℕ) → most ≤ more → IsTold most text → IsTold more text
-told-wider most more text wide told = let short : length text ≤ most = told.short in record { report = told.report; short = omega arith }
-
--- lines behind lines are lines
-both : (most more : ℕ) (text next : List ℕ) → IsTold most text → IsTold more next → IsTold (most + more) (text ++ next)
-both most more text next told other =
-    let short : length text ≤ most = told.short in
-    let few : length next ≤ more = other.short in
-    let sum : length (text ++ next) ≡ length text + length next = length-append text next in
-    record {
-      report = record {
-        lines = told.report.lines ++ other.report.lines;
-        each = all-both IsReportLine told.report.lines other.report.lines told.report.each other.report.each;
-        fed = ap (λ (t : List ℕ). t ++ next) told.report.fed ∙ ap (λ (t : List ℕ). text_of told.report.lines ++ t) other.report.fed ∙ sym (flat_map-append fed told.report.lines other.report.lines);
-      };
-      short = omega arith;
-    }
-
--- a part is told in a line
-one : (most : ℕ) (text : List ℕ) → IsPart most text → IsTold (most + 3) (line text)
-one most text part =
-    let short : length text ≤ most = part.short in
-    let sum : length (line text) ≡ length (codes "* " ++ text) + 1 = length-append (codes "* " ++ text) (10 ∷ []) in
-    record {
-      report = record {
-        lines = (codes "* " ++ text) ∷ [];
-        each = (record { rest = 32 ∷ text; marked = refl; bytes = (omega arith, part.printed) }, tt);
-        fed = sym (append-nil (line text));
-      };
-      short = omega arith;
-    }
-
--- the line of an act
-act-told : (n : ℕ) (e : Entry) → Is64 n → EntryFits e → IsTold 169 (line (codes "ACT " ++ decimal n ++ blank (entry_text e)))
-act-told n e few fits =
-    one 166 (codes "ACT " ++ decimal n ++ blank (entry_text e))
-    (joined 24 142 (codes "ACT " ++ decimal n) (blank (entry_text e)) (joined 4 20 (codes "ACT ") (decimal n) (word (codes "ACT ") refl) (number n few))
-    (behind-blank 141 (entry_text e) (entry-part e fits)))
-
--- the lines of acts whose numbers are few
-acts-told : (n : ℕ) (es : List Entry) → n + length es ≤ 10000 → AllByRecursion EntryFits es → IsTold (169 * length es) (acts_text n es)
-acts-told n [] few fits = nothing
-acts-told n (e ∷ es) few fits =
-    told-wider (169 + 169 * length es) (169 * length (e ∷ es)) (acts_text n (e ∷ es)) (omega arith)
-    (both 169 (169 * length es) (line (codes "ACT " ++ decimal n ++ blank (entry_text e))) (acts_text (n + 1) es) (act-told n e (omega arith) fits.0) (acts-told (n + 1) es (omega arith) fits.1))
-
--- what is printed of an answer is a part
-short-word : (text : List ℕ) (most : ℕ) → most ≤ 30 → IsPart most text → IsPart 30 text
-short-word text most few part = wider most 30 text few part
-
-answer-part : (given : ItemAnswer) → AnswerFits given → IsPart 30 (answer_text given)
-answer-part Done fits = short-word (codes "DONE") 4 (omega arith) (word (codes "DONE") refl)
-answer-part (Got text) fits = joined 6 24 (codes "VALUE ") text (word (codes "VALUE ") refl) (value text fits)
-answer-part Empty fits = short-word (codes "EMPTY") 5 (omega arith) (word (codes "EMPTY") refl)
-answer-part Locked fits = short-word (codes "LOCKED") 6 (omega arith) (word (codes "LOCKED") refl)
-answer-part LogFull fits = short-word (codes "LOGFULL") 7 (omega arith) (word (codes "LOGFULL") refl)
-answer-part NotOpen fits = short-word (codes "NOTOPEN") 7 (omega arith) (word (codes "NOTOPEN") refl)
-answer-part NameUsed fits = short-word (codes "NAMEUSED") 8 (omega arith) (word (codes "NAMEUSED") refl)
-answer-part UnitsFull fits = short-word (codes "UNITSFULL") 9 (omega arith) (word (codes "UNITSFULL") refl)
-answer-part BadRrn fits = short-word (codes "BADRRN") 6 (omega arith) (word (codes "BADRRN") refl)
-answer-part TermUsed fits = short-word (codes "TERMUSED") 8 (omega arith) (word (codes "TERMUSED") refl)
-answer-part TermsFull fits = short-word (codes "TERMSFULL") 9 (omega arith) (word (codes "TERMSFULL") refl)
-answer-part NotOn fits = short-word (codes "NOTON") 5 (omega arith) (word (codes "NOTON") refl)
-answer-part UserOn fits = short-word (codes "USERON") 6 (omega arith) (word (codes "USERON") refl)
-answer-part NoUser fits = short-word (codes "NOUSER") 6 (omega arith) (word (codes "NOUSER") refl)
+use Rattle.xrf_world.specs.declared.state.ItemState.TheVariants.{Answered, Pending, Lost}
+use Rattle.xrf_world.specs.declared.state.JobState.{JobState}
+use Rattle.xrf_world.specs.declared.state.JobState.TheVariants.{Absent, Starting, Restarting, Active, Tracking, Waiting, Ending}
+use Rattle.xrf_setup.specs.Scenario.{Scen, IsScen, work}
+use Rattle.xrf_setup.specs.declared.format.Format.{Format}
+use Rattle.xrf_terms.specs.declared.rows.Row.{Row}
+use Rattle.xrf_trace.specs.Devices.{control, image, message_slot, log_slot, key_slot}
+use Rattle.xrf_trace.specs.Words.{now, items_taken}
+use Rattle.xrf_trace.specs.declared.entry.Entry.{Entry}
+use Rattle.xrf_report.specs.Files.{file_text}
+use Rattle.xrf_report.specs.Fits.{Is32, ImagesFit}
+use Rattle.xrf_report.specs.Images.{pieces_text, all_pieces, ctl_bytes, msg_signals, images_text}
+use Rattle.xrf_report.specs.Items.{state_text, item_line, items_text}
+use Rattle.xrf_report.specs.Jobs.{job_text, job_line}
+use Rattle.xrf_report.specs.Report.{taken_text, table_text, table_of_site, standing_text, images_if}
+use Rattle.xrf_report.specs.ReportFits.{StateFits, ItemsFit, TakenFit, JobFits, TableFits, StandingFits, ImagesFitIf, ReportFits}
+use Rattle.xrf_report.specs.Standing.{done_line}
+use Rattle.xrf_report.proofs.ActParts.{site-part}
+use Rattle.xrf_report.proofs.ImagesTold.{pieces-told, slots-told, records-told}
+use Rattle.xrf_report.proofs.Lines.{IsTold, nothing, told-wider, both, one}
+use Rattle.xrf_report.proofs.Parts.{IsPart, word, within, joined, behind-blank, number, short-number}
+use Rattle.xrf_report.proofs.StandingLaws.{answer-part, tick-told, control-told, log-told, done-told, rows-told, file-told}
 
 state-part : (state : ItemState) → StateFits state → IsPart 30 (state_text state)
 state-part (Answered given) fits = answer-part given fits
-state-part Pending fits = short-word (codes "OPEN") 4 (omega arith) (word (codes "OPEN") refl)
+state-part Pending fits = within 30 refl (word (codes "OPEN") refl)
+state-part Lost fits = within 30 refl (word (codes "LOST") refl)
 
--- the lines of so many items
-item-told : (s : Base) (t : List Entry) (n : ℕ) → Is64 n → StateFits (state_of (answer s t n)) → IsTold 61 (item_line s t n)
-item-told s t n few fits =
-    one 58 (codes "ITEM A " ++ decimal n ++ blank (state_text (state_of (answer s t n))))
-    (joined 27 31 (codes "ITEM A " ++ decimal n) (blank (state_text (state_of (answer s t n)))) (joined 7 20 (codes "ITEM A ") (decimal n) (word (codes "ITEM A ") refl) (number n few))
-    (behind-blank 30 (state_text (state_of (answer s t n))) (state-part (state_of (answer s t n)) fits)))
+item-told : (x : Site) (n : ℕ) (state : ItemState) → n < 100000 → StateFits state → IsTold 46 (item_line x n state)
+item-told x n state few fits =
+    one (joined (joined (joined (word (codes "ITEM ") refl) (site-part x)) (behind-blank (short-number n few))) (behind-blank (state-part state fits)))
 
-items-told : (s : Base) (t : List Entry) (count : ℕ) → count ≤ 10000 → ItemsFit s t count → IsTold (61 * count) (items_text s t count)
-items-told s t zero few fits = nothing
-items-told s t (suc count) few fits =
-    told-wider (61 * count + 61) (61 * suc count) (items_text s t (suc count)) (omega arith)
-    (both (61 * count) 61 (items_text s t count) (item_line s t (suc count)) (items-told s t count (omega arith) fits.0) (item-told s t (suc count) (omega arith) fits.1))
+items-told : (s : Scen) (t : List Entry) (x : Site) (count : ℕ) → count ≤ 2000 → ItemsFit s t x count → IsTold (46 * count) (items_text s t x count)
+items-told s t x zero few fits = nothing
+items-told s t x (suc count) few fits =
+    let product : 46 * suc count ≡ 46 * count + 46 = mul-suc 46 count in
+    told-wider (omega arith)
+    (both (items-told s t x count (omega arith) fits.0) (item-told x (suc count) (item_state s t x (suc count)) (omega arith) fits.1))
 
-job-part : (state : JobState) → JobFits state → IsPart 31 (job_text state)
-job-part Absent fits = wider 4 31 (codes "NONE") (omega arith) (word (codes "NONE") refl)
-job-part Starting fits = wider 10 31 (codes "0 STARTING") (omega arith) (word (codes "0 STARTING") refl)
-job-part (Restarting n) fits = joined 20 11 (decimal n) (codes " RESTARTING") (number n fits) (word (codes " RESTARTING") refl)
-job-part (Active n) fits = wider 27 31 (decimal n ++ codes " ACTIVE") (omega arith) (joined 20 7 (decimal n) (codes " ACTIVE") (number n fits) (word (codes " ACTIVE") refl))
+work-few : (s : Scen) (x : Site) → IsScen s → length (work s x) ≤ 2000
+work-few s A is = is.work_a_few
+work-few s B is = is.work_b_few
 
-counts-part : (c : LogCounts) → CountsFit c → IsPart 79 (log_counts_text c)
-counts-part c fits =
-    joined 59 20 (decimal c.records ++ codes " COMMITTED " ++ decimal c.committed ++ codes " FLIGHT ") (decimal c.flight)
-    (joined 51 8 (decimal c.records ++ codes " COMMITTED " ++ decimal c.committed) (codes " FLIGHT ")
-    (joined 31 20 (decimal c.records ++ codes " COMMITTED ") (decimal c.committed) (joined 20 11 (decimal c.records) (codes " COMMITTED ") (number c.records fits.0) (word (codes " COMMITTED ") refl)) (number c.committed fits.1))
-    (word (codes " FLIGHT ") refl))
-    (number c.flight fits.2)
+-- the items of a site
+taken-told : (s : Scen) (t : List Entry) (x : Site) → IsScen s → TakenFit s t x → IsTold 92000 (taken_text s t x)
+taken-told s t x is fits =
+    let most = work-few s x is in
+    let few : items_taken t x ≤ 2000 = omega (arith, fits.few) in
+    told-wider (omega arith) (items-told s t x (items_taken t x) few fits.items)
 
--- the lines of what stands
-standing-told : (t : List Entry) → StandingFits t → IsTold 237 (standing_text t)
-standing-told t fits =
-    both 151 86 (line (codes "TICK 0") ++ line (codes "CONTROL " ++ control_text (control t)) ++ line (codes "JOB A " ++ job_text (job t)) ++ line (codes "JOB B NONE")) (line (codes "LOG " ++ log_counts_text (log_counts t)))
-    (both 138 13 (line (codes "TICK 0") ++ line (codes "CONTROL " ++ control_text (control t)) ++ line (codes "JOB A " ++ job_text (job t))) (line (codes "JOB B NONE"))
-    (both 98 40 (line (codes "TICK 0") ++ line (codes "CONTROL " ++ control_text (control t))) (line (codes "JOB A " ++ job_text (job t)))
-    (both 9 89 (line (codes "TICK 0")) (line (codes "CONTROL " ++ control_text (control t))) (one 6 (codes "TICK 0") (word (codes "TICK 0") refl))
-    (one 86 (codes "CONTROL " ++ control_text (control t)) (joined 8 78 (codes "CONTROL ") (control_text (control t)) (word (codes "CONTROL ") refl) (control-part (control t) fits.control))))
-    (one 37 (codes "JOB A " ++ job_text (job t)) (joined 6 31 (codes "JOB A ") (job_text (job t)) (word (codes "JOB A ") refl) (job-part (job t) fits.job))))
-    (one 10 (codes "JOB B NONE") (word (codes "JOB B NONE") refl)))
-    (one 83 (codes "LOG " ++ log_counts_text (log_counts t)) (joined 4 79 (codes "LOG ") (log_counts_text (log_counts t)) (word (codes "LOG ") refl) (counts-part (log_counts t) fits.log)))
+job-of : (text : List ℕ) (inc : ℕ) → nat_le (length text) 11 ≡ true → list_all (nat_le 32) text ≡ true → Is32 inc → IsPart 21 (decimal inc ++ text)
+job-of text inc few passed fits = joined (number inc fits) (within 11 few (word text passed))
 
--- the lines of so many records
-record-told : (n : ℕ) (place : Option (List ℕ)) → Is64 n → RecordFits place → IsTold 53 (file_line n place)
-record-told n None few fits = told-wider 0 53 [] (omega arith) nothing
-record-told n (Some text) few fits =
-    one 50 (codes "FILE " ++ decimal n ++ blank text)
-    (joined 25 25 (codes "FILE " ++ decimal n) (blank text) (joined 5 20 (codes "FILE ") (decimal n) (word (codes "FILE ") refl) (number n few)) (behind-blank 24 text (value text fits)))
+job-part : (state : JobState) → JobFits state → IsPart 21 (job_text state)
+job-part Absent fits = within 21 refl (word (codes "NONE") refl)
+job-part Starting fits = within 21 refl (word (codes "0 STARTING") refl)
+job-part (Restarting inc) fits = job-of (codes " RESTARTING") inc refl refl fits
+job-part (Active inc) fits = job-of (codes " ACTIVE") inc refl refl fits
+job-part (Tracking inc) fits = job-of (codes " TRACKING") inc refl refl fits
+job-part (Waiting inc) fits = job-of (codes " WAITING") inc refl refl fits
+job-part (Ending inc) fits = job-of (codes " ENDING") inc refl refl fits
 
-records-told : (s : Base) (t : List Entry) (count : ℕ) → count ≤ 10000 → RecordsFit s t count → IsTold (53 * count) (file_text s t count)
-records-told s t zero few fits = nothing
-records-told s t (suc count) few fits =
-    told-wider (53 * count + 53) (53 * suc count) (file_text s t (suc count)) (omega arith)
-    (both (53 * count) 53 (file_text s t count) (file_line (suc count) (image s t (suc count))) (records-told s t count (omega arith) fits.0) (record-told (suc count) (image s t (suc count)) (omega arith) fits.1))
+job-told : (x : Site) (state : JobState) → JobFits state → IsTold 30 (job_line x state)
+job-told x state fits = one (joined (joined (word (codes "JOB ") refl) (site-part x)) (behind-blank (job-part state fits)))
 
--- the most bytes of the report of a trace of at most 8,192 entries, 62 items and 256 records
-abbrev pub report_most : ℕ
-report_most = 1402042
+table-told : (xrf : Format) (x : Site) (table : Option (List Row)) → TableFits table → IsTold 3008 (table_text xrf x table)
+table-told xrf x None fits = nothing
+table-told xrf x (Some rows) fits = let few : length rows ≤ 64 = fits.1 in told-wider (omega arith) (rows-told xrf x rows fits.0)
 
--- The report of such a trace is lines that may stand behind END, so many bytes at most.
-pub report-told : (s : Base) (t : List Entry) → length t ≤ 8192 → taken t ≤ 62 → s.file ≤ 256 → ReportFits s t → IsTold report_most (report s t)
-report-told s t few items file fits =
-    let long : length (reverse t) ≡ length t = length-reverse t in
-    told-wider (169 * length (reverse t) + 61 * taken t + 237 + 53 * s.file + 7) report_most (report s t) (omega arith)
-    (both (169 * length (reverse t) + 61 * taken t + 237 + 53 * s.file) 7 (acts_text 1 (reverse t) ++ items_text s t (taken t) ++ standing_text t ++ file_text s t s.file) (line (codes "DONE"))
-    (both (169 * length (reverse t) + 61 * taken t + 237) (53 * s.file) (acts_text 1 (reverse t) ++ items_text s t (taken t) ++ standing_text t) (file_text s t s.file)
-    (both (169 * length (reverse t) + 61 * taken t) 237 (acts_text 1 (reverse t) ++ items_text s t (taken t)) (standing_text t)
-    (both (169 * length (reverse t)) (61 * taken t) (acts_text 1 (reverse t)) (items_text s t (taken t)) (acts-told 1 (reverse t) (omega arith) fits.entries) (items-told s t (taken t) (omega arith) fits.items))
-    (standing-told t fits.standing))
-    (records-told s t s.file (omega arith) fits.records))
-    (one 4 (codes "DONE") (word (codes "DONE") refl)))
+-- what stands in the end
+standing-told : (s : Scen) (t : List Entry) → StandingFits s t → IsTold 6261 (standing_text s t)
+standing-told s t fits =
+    both
+    (both
+    (both
+    (both (both (both (tick-told (now t) fits.tick) (control-told s.settings.format (control t) fits.control)) (job-told A (job_state s t A) fits.job_a))
+    (job-told B (job_state s t B) fits.job_b))
+    (table-told s.settings.format A (table_at s t A) fits.table_a))
+    (table-told s.settings.format B (table_at s t B) fits.table_b))
+    (log-told (log_counts t).records (log_counts t).committed (log_counts t).flight fits.log.0 fits.log.1 fits.log.2)
+
+-- all pieces of so many bytes
+extent-told : (name bytes : List ℕ) (count : ℕ) → IsPart 4 name → length bytes ≡ 32 * count → count ≤ 12 → IsTold 1008 (all_pieces name bytes)
+extent-told name bytes count named size few =
+    let pieces : length bytes / 32 ≤ 12 = omega arith in
+    told-wider (omega arith) (pieces-told name bytes (length bytes / 32) named (omega arith))
+
+-- the images of the data sets
+images-told : (s : Scen) (t : List Entry) → IsScen s → ImagesFit s t → IsTold 206640 (images_text s t)
+images-told s t is fits =
+    let ring : s.settings.ring ≤ 64 = is.settings.ring.1 in
+    let log : s.settings.log ≤ 1024 = is.settings.log.1 in
+    let file : s.settings.file ≤ 256 = is.settings.file.1 in
+    told-wider (omega arith)
+    (both
+    (both
+    (both
+    (both
+    (both (extent-told (codes "CTL") (ctl_bytes t) 12 (within 4 refl (word (codes "CTL") refl)) fits.ctl (omega arith))
+    (extent-told (codes "MSG") (msg_signals t) 4 (within 4 refl (word (codes "MSG") refl)) fits.signals (omega arith)))
+    (slots-told (codes "MSG") 128 (message_slot t) s.settings.ring (within 4 refl (word (codes "MSG") refl)) (omega arith) (omega arith) fits.messages))
+    (slots-told (codes "LOG") 0 (log_slot s t) s.settings.log (within 4 refl (word (codes "LOG") refl)) (omega arith) (omega arith) fits.log))
+    (records-told (image s t) s.settings.file (omega arith) fits.file))
+    (slots-told (codes "KEY") 0 (key_slot t) 2 (within 4 refl (word (codes "KEY") refl)) (omega arith) (omega arith) fits.key))
+
+images-if-told : (on : Bool) (s : Scen) (t : List Entry) → IsScen s → ImagesFitIf on s t → IsTold 206640 (images_if on s t)
+images-if-told true s t is fits = images-told s t is fits
+images-if-told false s t is fits = nothing
+
+-- what a report tells behind the acts
+abbrev pub behind_acts : Scen → List Entry → List ℕ
+behind_acts s t =
+    taken_text s t A ++ taken_text s t B ++ standing_text s t ++ file_text (image s t) s.settings.file ++ images_if s.settings.images s t ++ done_line
+
+-- It has at most 406,636 bytes.
+pub behind-acts-told : (s : Scen) (t : List Entry) → IsScen s → ReportFits s t → IsTold 406636 (behind_acts s t)
+behind-acts-told s t is fits =
+    let file : s.settings.file ≤ 256 = is.settings.file.1 in
+    told-wider (omega arith)
+    (both
+    (both
+    (both (both (both (taken-told s t A is fits.taken_a) (taken-told s t B is fits.taken_b)) (standing-told s t fits.standing))
+    (file-told (image s t) s.settings.file (omega arith) fits.records))
+    (images-if-told s.settings.images s t is fits.images))
+    done-told)

@@ -1,25 +1,23 @@
 -- The document of a scenario and its choices: the canonical text, and the report of their run.
 use Rattle.std.specs.Prelude.{ℕ, List, [], ◌++◌, Result, Ok, Err}
-use Rattle.xrf_setup.specs.Scenario.{Scen}
 use Rattle.xrf_scenario.specs.Built.{AreAllowed}
 use Rattle.xrf_scenario.specs.Canonical.{canon, at_lines}
 use Rattle.xrf_scenario.specs.Reading.{Reads}
 use Rattle.xrf_scenario.specs.declared.built.Forms.{Forms}
+use Rattle.xrf_setup.specs.Scenario.{Scen}
 use Rattle.xrf_setup.specs.declared.choice.Choice.{Choice}
-use Rattle.xrf_world.specs.Base.{base_of}
-use Rattle.xrf_world.specs.declared.entry.Entry.{Entry}
-use Rattle.xrf_world.specs.Runs.{run, Refusal}
+use Rattle.xrf_trace.specs.Runs.{run, Refusal}
+use Rattle.xrf_trace.specs.declared.entry.Entry.{Entry}
 use Rattle.xrf_report.specs.Report.{report}
 
 -- of choices that are refused there is none
 abbrev pub document_of : Scen → List Choice → Result (List Entry) Refusal → List ℕ
-document_of s choices (Ok t) = canon s choices ++ report (base_of s) t
+document_of s choices (Ok t) = canon s choices ++ report s t
 document_of s choices (Err refusal) = []
 
 abbrev pub doc : Scen → List Choice → List ℕ
-doc s choices = document_of s choices (run (base_of s) choices)
+doc s choices = document_of s choices (run s choices)
 
--- A text is read as a scenario and choices, each choice at its line in the canonical text, by all
--- forms and by those that the program runs today, where they have these.
+-- A text is read as a scenario and choices, each choice at its line in the canonical text.
 abbrev pub ReadsAgain : Scen → List Choice → List ℕ → Type 0
 ReadsAgain s choices text = (forms : Forms) → AreAllowed forms s choices → Reads forms text s (at_lines s choices)

@@ -1,84 +1,56 @@
--- The report of a trace: its acts, the answers of the items, and what stands in the end.
-use Rattle.std.specs.Prelude.{ℕ, zero, suc, ◌+◌, List, [], ◌∷◌, ◌++◌, codes, reverse, Option, Some, None}
-use Rattle.std.specs.Fmt.{decimal}
-use Rattle.xrf_base.specs.declared.items.ItemAnswer.{ItemAnswer}
-use Rattle.xrf_base.specs.declared.items.ItemAnswer.TheVariants.{Done, Got, Empty, Locked, LogFull, NotOpen, NameUsed, UnitsFull, BadRrn, TermUsed, TermsFull, NotOn, UserOn, NoUser}
-use Rattle.xrf_world.specs.Base.{Base}
-use Rattle.xrf_report.specs.Words.{blank}
-use Rattle.xrf_scenario.specs.Canonical.{fed}
-use Rattle.xrf_world.specs.declared.entry.Entry.{Entry}
-use Rattle.xrf_world.specs.declared.state.JobState.{JobState}
-use Rattle.xrf_world.specs.declared.state.JobState.TheVariants.{Absent, Starting, Restarting, Active}
-use Rattle.xrf_world.specs.declared.state.ItemState.{ItemState}
-use Rattle.xrf_world.specs.declared.state.ItemState.TheVariants.{Answered, Pending}
-use Rattle.xrf_world.specs.declared.state.LogCounts.{LogCounts}
-use Rattle.xrf_world.specs.Trace.{taken, control, job, log_counts, image}
-use Rattle.xrf_world.specs.Items.{answer, state_of}
-use Rattle.xrf_report.specs.Acts.{entry_text, control_text}
+-- The report of a run: its acts, the answers of the items, and what stands in the end.
+use Rattle.std.specs.Prelude.{ℕ, Bool, true, false, List, [], ◌++◌, reverse, Option, Some, None}
+use Rattle.xrf_base.specs.declared.site.Site.{Site}
+use Rattle.xrf_base.specs.declared.site.Site.TheVariants.{A, B}
+use Rattle.xrf_world.specs.Report.{job_state, table_at, log_counts}
+use Rattle.xrf_setup.specs.Scenario.{Scen}
+use Rattle.xrf_setup.specs.declared.format.Format.{Format}
+use Rattle.xrf_terms.specs.declared.rows.Row.{Row}
+use Rattle.xrf_trace.specs.Devices.{control, image}
+use Rattle.xrf_trace.specs.Words.{now, items_taken}
+use Rattle.xrf_trace.specs.declared.entry.Entry.{Entry}
+use Rattle.xrf_report.specs.Entries.{acts_text}
+use Rattle.xrf_report.specs.Files.{file_text}
+use Rattle.xrf_report.specs.Images.{images_text}
+use Rattle.xrf_report.specs.Items.{items_text}
+use Rattle.xrf_report.specs.Jobs.{job_line}
+use Rattle.xrf_report.specs.Standing.{tick_line, control_line, log_line, done_line}
+use Rattle.xrf_report.specs.Terminals.{rows_text}
 
--- a line of the report
-abbrev pub line : List ℕ → List ℕ
-line text = fed (codes "* " ++ text)
+-- all items that a site has taken
+abbrev pub taken_text : Scen → List Entry → Site → List ℕ
+taken_text s t x = items_text s t x (items_taken t x)
 
--- the acts, the oldest first, counted from a number
-abbrev pub acts_text : ℕ → List Entry → List ℕ
-acts_text number [] = []
-acts_text number (e ∷ es) = line (codes "ACT " ++ decimal number ++ blank (entry_text e)) ++ acts_text (number + 1) es
+-- the table of the job at a site, where one is there
+abbrev pub table_text : Format → Site → Option (List Row) → List ℕ
+table_text xrf x None = []
+table_text xrf x (Some rows) = rows_text xrf x rows
 
-abbrev pub answer_text : ItemAnswer → List ℕ
-answer_text Done = codes "DONE"
-answer_text (Got value) = codes "VALUE " ++ value
-answer_text Empty = codes "EMPTY"
-answer_text Locked = codes "LOCKED"
-answer_text LogFull = codes "LOGFULL"
-answer_text NotOpen = codes "NOTOPEN"
-answer_text NameUsed = codes "NAMEUSED"
-answer_text UnitsFull = codes "UNITSFULL"
-answer_text BadRrn = codes "BADRRN"
-answer_text TermUsed = codes "TERMUSED"
-answer_text TermsFull = codes "TERMSFULL"
-answer_text NotOn = codes "NOTON"
-answer_text UserOn = codes "USERON"
-answer_text NoUser = codes "NOUSER"
+abbrev pub table_of_site : Scen → List Entry → Site → List ℕ
+table_of_site s t x = table_text s.settings.format x (table_at s t x)
 
--- an item that is not answered yet is open
-abbrev pub state_text : ItemState → List ℕ
-state_text (Answered given) = answer_text given
-state_text Pending = codes "OPEN"
+-- tick, control record, jobs, terminal tables and log
+abbrev pub standing_text : Scen → List Entry → List ℕ
+standing_text s t =
+    tick_line (now t)
+    ++ control_line s.settings.format (control t)
+    ++ job_line A (job_state s t A)
+    ++ job_line B (job_state s t B)
+    ++ table_of_site s t A
+    ++ table_of_site s t B
+    ++ log_line (log_counts t).records (log_counts t).committed (log_counts t).flight
 
-abbrev pub item_line : Base → List Entry → ℕ → List ℕ
-item_line s t number = line (codes "ITEM A " ++ decimal number ++ blank (state_text (state_of (answer s t number))))
+-- the data sets, where IMAGES is ON
+abbrev pub images_if : Bool → Scen → List Entry → List ℕ
+images_if true s t = images_text s t
+images_if false s t = []
 
--- the first so many items
-abbrev pub items_text : Base → List Entry → ℕ → List ℕ
-items_text s t zero = []
-items_text s t (suc count) = items_text s t count ++ item_line s t (suc count)
-
-abbrev pub job_text : JobState → List ℕ
-job_text Absent = codes "NONE"
-job_text Starting = codes "0 STARTING"
-job_text (Restarting number) = decimal number ++ codes " RESTARTING"
-job_text (Active number) = decimal number ++ codes " ACTIVE"
-
-abbrev pub log_counts_text : LogCounts → List ℕ
-log_counts_text c = decimal c.records ++ codes " COMMITTED " ++ decimal c.committed ++ codes " FLIGHT " ++ decimal c.flight
-
--- the record of a number, where there is one
-abbrev pub file_line : ℕ → Option (List ℕ) → List ℕ
-file_line number None = []
-file_line number (Some value) = line (codes "FILE " ++ decimal number ++ blank value)
-
--- the first so many records
-abbrev pub file_text : Base → List Entry → ℕ → List ℕ
-file_text s t zero = []
-file_text s t (suc count) = file_text s t count ++ file_line (suc count) (image s t (suc count))
-
--- tick, control record, the regions of both sites, and the log
-abbrev pub standing_text : List Entry → List ℕ
-standing_text t =
-    line (codes "TICK 0") ++ line (codes "CONTROL " ++ control_text (control t)) ++ line (codes "JOB A " ++ job_text (job t))
-    ++ line (codes "JOB B NONE") ++ line (codes "LOG " ++ log_counts_text (log_counts t))
-
-abbrev pub report : Base → List Entry → List ℕ
+abbrev pub report : Scen → List Entry → List ℕ
 report s t =
-    acts_text 1 (reverse t) ++ items_text s t (taken t) ++ standing_text t ++ file_text s t s.file ++ line (codes "DONE")
+    acts_text s 1 (reverse t)
+    ++ taken_text s t A
+    ++ taken_text s t B
+    ++ standing_text s t
+    ++ file_text (image s t) s.settings.file
+    ++ images_if s.settings.images s t
+    ++ done_line

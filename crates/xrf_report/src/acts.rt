@@ -1,127 +1,86 @@
-//! How acts and what they hold are printed.
+//! How acts are written.
 
 ghost use Rattle.std.specs.Prelude.{◌≡◌, ◌++◌, OnOk, codes};
 ghost use Rattle.std.specs.Fmt.{decimal};
-ghost use Rattle.xrf_base.specs.Values.{IsValue};
-ghost use Rattle.xrf_grammar.specs.declared.writing.Piece.TheVariants.{Number};
+ghost use Rattle.xrf_grammar.specs.Spelling.{answer_word};
+ghost use Rattle.xrf_cebt.specs.Command.{command_text};
+ghost use Rattle.xrf_cebt.specs.Reply.{reply_text};
 ghost use Rattle.xrf_report.specs.Words.{blank};
-ghost use Rattle.xrf_report.specs.Fits.{Is64, OwnerFits, ControlFits, SignalFits, UnitFits, LogFits, ActFits, EntryFits};
-ghost use Rattle.xrf_report.specs.Acts.{who_text, owner_text, owner_state_text, control_text, signal_text, decided_text, unit_text, log_text, act_text, entry_text};
+ghost use Rattle.xrf_report.specs.Records.{control_text};
+ghost use Rattle.xrf_report.specs.Messages.{message_text};
+ghost use Rattle.xrf_report.specs.Logged.{unit_text, log_text, keypoint_text};
+ghost use Rattle.xrf_report.specs.Decisions.{decided_text, ending_text};
+ghost use Rattle.xrf_report.specs.Acts.{go_word, signal_text, clt_at, clt_text, act_text};
+ghost use Rattle.xrf_base.specs.Values.{IsValue};
+ghost use Rattle.xrf_ctl.specs.Control.{IsControl};
+ghost use Rattle.xrf_report.specs.Fits.{Is32, SignalFits, MessageFits, UnitFits, LogFits, KeypointFits, DecidedFits, EndingFits, ActFits};
 
-use Piece::{Number, Text};
+use crate::decisions::{put_decided, put_ending};
+use crate::logged::{put_keypoint, put_record, put_unit};
+use crate::messages::put_message;
+use crate::records::put_control;
+use crate::words::{counter, digits, put_both, put_numbered, put_word};
+use Piece::Text;
 use std::alloc::{AllocError, Global};
-use xrf_base::{UnitId, Value};
-use xrf_grammar::writing::{Piece, put, site_word};
-use xrf_world::{Act, Control, Decided, Entry, LogRec, Owner, OwnerState, Signal, Who};
+use xrf_base::{Site, UnitId, Value};
+use xrf_cavm::Decided;
+use xrf_cebt::{Cebt, CebtReply};
+use xrf_ctl::{Control, Signal};
+use xrf_exit::ExitAnswer;
+use xrf_grammar::writing::{Piece, put};
+use xrf_history::EndWhy;
+use xrf_logrec::{Keypoint, LogRec};
+use xrf_msg::Message;
+use xrf_setup::Scenario;
+use xrf_trace::{Act, Who};
 
-/// The piece of a number.
-pub fn digits<'a>(number: u64) -> Piece<'a>
-    ensures piece { result ≡ Number number }
-    ensures fits { Is64 number }
+fn answer_word(answer: ExitAnswer) -> &'static [u8]
+    ensures { result.now ≡ answer_word answer }
 {
-    Number(number)
-}
-
-fn who_word(who: Who) -> &'static [u8]
-    ensures { result.now ≡ who_text who }
-{
-    match who {
-        Who::A => b"A",
-        Who::B => b"B",
-        Who::Env => b"-",
+    match answer {
+        ExitAnswer::Abend => b"ABEND",
+        ExitAnswer::Keep => b"KEEP",
+        ExitAnswer::Drop => b"DROP",
     }
 }
 
-fn owner_state_word(state: OwnerState) -> &'static [u8]
-    ensures { result.now ≡ owner_state_text state }
+fn go_word(go: bool) -> &'static [u8]
+    ensures { result.now ≡ go_word go }
 {
-    match state {
-        OwnerState::Running => b"RUNNING",
-    }
+    if go { b"GO" } else { b"IGNORE" }
 }
 
-fn decided_word(decided: Decided) -> &'static [u8]
-    ensures { result.now ≡ decided_text decided }
-{
-    match decided {
-        Decided::Nothing => b"NOTHING",
-    }
-}
-
-fn put_owner(alloc: Global, out: &mut Vec<u8>, owner: Option<Owner>) -> Result<(), AllocError>
-    ensures text { OnOk result (out.new.items ≡ out.old.items ++ owner_text owner) }
-    ensures fits { OnOk result (OwnerFits owner) }
-{
-    match owner {
-        Some(owner) => put(
-            alloc,
-            out,
-            &[
-                digits(owner.inc as u64),
-                Text(b"."),
-                Text(site_word(owner.site)),
-                Text(b"."),
-                Text(owner_state_word(owner.state)),
-            ],
-        ),
-        None => put(alloc, out, &[Text(b"NONE")]),
-    }
-}
-
-pub fn put_control(alloc: Global, out: &mut Vec<u8>, control: &Control) -> Result<(), AllocError>
-    ensures text { OnOk result (out.new.items ≡ out.old.items ++ control_text control.now) }
-    ensures fits { OnOk result (ControlFits control.now) }
-{
-    put(alloc, out, &[digits(control.last as u64), Text(b" OWNER ")])?;
-    put_owner(alloc, out, control.owner)?;
-    put(alloc, out, &[Text(b" ALT NONE TAKING NONE")])
-}
-
-fn put_unit(alloc: Global, out: &mut Vec<u8>, unit: UnitId) -> Result<(), AllocError>
-    ensures text { OnOk result (out.new.items ≡ out.old.items ++ unit_text unit) }
-    ensures fits { OnOk result (UnitFits unit) }
+fn put_reply(
+    alloc: Global,
+    out: &mut Vec<u8>,
+    command: Cebt,
+    reply: CebtReply,
+) -> Result<(), AllocError>
+    ensures { OnOk result (out.new.items ≡ out.old.items ++ codes "CEBT " ++ command_text command ++ codes " = " ++ reply_text reply) }
 {
     put(
         alloc,
         out,
         &[
-            digits(unit.inc as u64),
-            Text(b"."),
-            digits(unit.serial as u64),
+            Text(b"CEBT "),
+            Text(command.text()),
+            Text(b" = "),
+            Text(reply.text()),
         ],
     )
 }
 
-fn put_record(alloc: Global, out: &mut Vec<u8>, logged: &LogRec) -> Result<(), AllocError>
-    ensures text { OnOk result (out.new.items ≡ out.old.items ++ log_text logged.now) }
-    ensures fits { OnOk result (LogFits logged.now) }
-{
-    match logged {
-        LogRec::Put(unit, number) => {
-            put(alloc, out, &[Text(b"PUT ")])?;
-            put_unit(alloc, out, *unit)?;
-            put(alloc, out, &[Text(b" "), digits(*number as u64)])
-        }
-        LogRec::Commit(unit) => {
-            put(alloc, out, &[Text(b"COMMIT ")])?;
-            put_unit(alloc, out, *unit)
-        }
-    }
-}
-
-// a word, a number, and behind a blank a log record
-fn put_log(
+fn put_write(
     alloc: Global,
     out: &mut Vec<u8>,
-    word: &[u8],
-    place: u32,
-    logged: &LogRec,
+    scenario: &Scenario,
+    control: &Control,
 ) -> Result<(), AllocError>
-    ensures text { OnOk result (out.new.items ≡ out.old.items ++ word.now ++ decimal place ++ blank (log_text logged.now)) }
-    ensures fits { OnOk result (Is64 place × LogFits logged.now) }
+    ensures text { OnOk result (out.new.items ≡ out.old.items ++ codes "CTLWRITE " ++ control_text scenario.now.settings.format control.now) }
+    ensures fits { OnOk result (IsControl control.now) }
 {
-    put(alloc, out, &[Text(word), digits(place as u64), Text(b" ")])?;
-    put_record(alloc, out, logged)
+    put_word(out, b"CTLWRITE ")?;
+    put_control(alloc, out, scenario.format(), control)
 }
 
 fn put_signal(
@@ -138,97 +97,192 @@ fn put_signal(
         out,
         &[
             Text(word),
-            digits(signal.counter),
+            counter(signal.counter),
             Text(b" "),
-            digits(signal.cursor as u64),
+            digits(signal.cursor),
         ],
     )
 }
 
-fn put_counted(alloc: Global, out: &mut Vec<u8>, word: &[u8], number: u64) -> Result<(), AllocError>
-    ensures text { OnOk result (out.new.items ≡ out.old.items ++ word.now ++ decimal number) }
-    ensures fits { OnOk result (Is64 number) }
+fn put_decide(alloc: Global, out: &mut Vec<u8>, decided: Decided) -> Result<(), AllocError>
+    ensures text { OnOk result (out.new.items ≡ out.old.items ++ codes "DECIDE " ++ decided_text decided) }
+    ensures fits { OnOk result (DecidedFits decided) }
 {
-    put(alloc, out, &[Text(word), digits(number)])
+    put_word(out, b"DECIDE ")?;
+    put_decided(alloc, out, decided)
 }
 
-fn put_write(
+// a word, the number of a slot, and behind a blank a message
+fn put_sent(
+    alloc: Global,
+    out: &mut Vec<u8>,
+    word: &[u8],
+    slot: u32,
+    message: &Message,
+) -> Result<(), AllocError>
+    ensures text { OnOk result (out.new.items ≡ out.old.items ++ word.now ++ decimal slot ++ blank (message_text message.now)) }
+    ensures fits { OnOk result (Is32 slot × MessageFits message.now) }
+{
+    put(alloc, out, &[Text(word), digits(slot), Text(b" ")])?;
+    put_message(alloc, out, message)
+}
+
+// a word, the number of a log record, and behind a blank the record
+fn put_logged(
+    alloc: Global,
+    out: &mut Vec<u8>,
+    word: &[u8],
+    place: u32,
+    rec: &LogRec,
+) -> Result<(), AllocError>
+    ensures text { OnOk result (out.new.items ≡ out.old.items ++ word.now ++ decimal place ++ blank (log_text rec.now)) }
+    ensures fits { OnOk result (Is32 place × LogFits rec.now) }
+{
+    put(alloc, out, &[Text(word), digits(place), Text(b" ")])?;
+    put_record(alloc, out, rec)
+}
+
+// a word, the number of a slot, and behind a blank a keypoint
+fn put_keyed(
+    alloc: Global,
+    out: &mut Vec<u8>,
+    word: &[u8],
+    slot: u8,
+    keypoint: &Keypoint,
+) -> Result<(), AllocError>
+    ensures text { OnOk result (out.new.items ≡ out.old.items ++ word.now ++ decimal slot ++ blank (keypoint_text keypoint.now)) }
+    ensures fits { OnOk result (Is32 slot × KeypointFits keypoint.now) }
+{
+    put(alloc, out, &[Text(word), digits(slot as u32), Text(b" ")])?;
+    put_keypoint(alloc, out, keypoint)
+}
+
+fn put_file_write(
     alloc: Global,
     out: &mut Vec<u8>,
     unit: UnitId,
     number: u16,
     value: &Value,
 ) -> Result<(), AllocError>
-    ensures text { OnOk result (out.new.items ≡ out.old.items ++ codes "FILEWRITE " ++ unit_text unit ++ blank (decimal number ++ blank value.now)) }
-    ensures fits { OnOk result (UnitFits unit × Is64 number × IsValue value.now) }
+    ensures text { OnOk result (out.new.items ≡ out.old.items ++ codes "FILEWRITE " ++ unit_text unit ++ blank (decimal number) ++ blank value.now) }
+    ensures fits { OnOk result (UnitFits unit × Is32 number × IsValue value.now) }
 {
-    put(alloc, out, &[Text(b"FILEWRITE ")])?;
+    put_word(out, b"FILEWRITE ")?;
     put_unit(alloc, out, unit)?;
     put(
         alloc,
         out,
         &[
             Text(b" "),
-            digits(number as u64),
+            digits(number as u32),
             Text(b" "),
             Text(value.text()),
         ],
     )
 }
 
-fn put_grant(alloc: Global, out: &mut Vec<u8>, control: &Control) -> Result<(), AllocError>
-    ensures text { OnOk result (out.new.items ≡ out.old.items ++ codes "CTLWRITE " ++ control_text control.now) }
-    ensures fits { OnOk result (ControlFits control.now) }
+// the line of the command list of a number, among those of the site's applid
+fn clt_at(scenario: &Scenario, site: Site, number: u16) -> &[u8]
+    ensures { result.now ≡ clt_at scenario.now site number }
 {
-    put(alloc, out, &[Text(b"CTLWRITE ")])?;
-    put_control(alloc, out, control)
-}
-
-fn put_act(alloc: Global, out: &mut Vec<u8>, act: &Act) -> Result<(), AllocError>
-    ensures text { OnOk result (out.new.items ≡ out.old.items ++ act_text act.now) }
-    ensures fits { OnOk result (ActFits act.now) }
-{
-    match act {
-        Act::StartActive => put(alloc, out, &[Text(b"START ACTIVE")]),
-        Act::Reserve => put(alloc, out, &[Text(b"RESERVE")]),
-        Act::CtlRead => put(alloc, out, &[Text(b"CTLREAD")]),
-        Act::CtlWrite(control) => put_grant(alloc, out, control),
-        Act::Release => put(alloc, out, &[Text(b"RELEASE")]),
-        Act::Signal1(signal) => put_signal(alloc, out, b"SIGNAL1 ", signal),
-        Act::Signal2(signal) => put_signal(alloc, out, b"SIGNAL2 ", signal),
-        Act::Look1 => put(alloc, out, &[Text(b"LOOK1")]),
-        Act::Look2 => put(alloc, out, &[Text(b"LOOK2")]),
-        Act::Decide(decided) => put(
-            alloc,
-            out,
-            &[Text(b"DECIDE "), Text(decided_word(*decided))],
-        ),
-        Act::LogRead(block) => put_counted(alloc, out, b"LOGREAD ", *block as u64),
-        Act::LogBody(place, logged) => put_log(alloc, out, b"LOGBODY ", *place, logged),
-        Act::LogOpen(place, logged) => put_log(alloc, out, b"LOGOPEN ", *place, logged),
-        Act::FileRead(number) => put_counted(alloc, out, b"FILEREAD ", *number as u64),
-        Act::FileWrite(unit, number, value) => put_write(alloc, out, *unit, *number, value),
-        Act::Item(number) => put_counted(alloc, out, b"ITEM ", *number as u64),
-        Act::Restarted => put(alloc, out, &[Text(b"RESTARTED")]),
+    let applid = scenario.applid(site);
+    let place = number.saturating_sub(1) as usize;
+    if place < scenario.clt().count_for(applid) {
+        scenario.clt().line_for(applid, place)
+    } else {
+        b""
     }
 }
 
-/// Appends the tick of an entry, whose act it is, the number of the region, and the act.
-pub fn put_entry(alloc: Global, out: &mut Vec<u8>, entry: &Entry) -> Result<(), AllocError>
-    ensures text { OnOk result (out.new.items ≡ out.old.items ++ entry_text entry.now) }
-    ensures fits { OnOk result (EntryFits entry.now) }
+fn clt_line(scenario: &Scenario, who: Who, number: u16) -> &[u8]
+    ensures { result.now ≡ clt_text scenario.now who number }
+{
+    match who {
+        Who::A => clt_at(scenario, Site::A, number),
+        Who::B => clt_at(scenario, Site::B, number),
+        Who::Env => b"",
+    }
+}
+
+fn put_clt(
+    alloc: Global,
+    out: &mut Vec<u8>,
+    scenario: &Scenario,
+    who: Who,
+    number: u16,
+) -> Result<(), AllocError>
+    ensures text { OnOk result (out.new.items ≡ out.old.items ++ codes "CLT " ++ decimal number ++ blank (clt_text scenario.now who number)) }
+    ensures fits { OnOk result (Is32 number) }
 {
     put(
         alloc,
         out,
         &[
-            digits(entry.tick as u64),
+            Text(b"CLT "),
+            digits(number as u32),
             Text(b" "),
-            Text(who_word(entry.who)),
-            Text(b" "),
-            digits(entry.inc as u64),
-            Text(b" "),
+            Text(clt_line(scenario, who, number)),
         ],
-    )?;
-    put_act(alloc, out, &entry.act)
+    )
+}
+
+fn put_ended(alloc: Global, out: &mut Vec<u8>, why: EndWhy) -> Result<(), AllocError>
+    ensures text { OnOk result (out.new.items ≡ out.old.items ++ codes "ENDED " ++ ending_text why) }
+    ensures fits { OnOk result (EndingFits why) }
+{
+    put_word(out, b"ENDED ")?;
+    put_ending(alloc, out, why)
+}
+
+/// Appends an act.
+pub(crate) fn put_act(
+    alloc: Global,
+    out: &mut Vec<u8>,
+    scenario: &Scenario,
+    who: Who,
+    act: &Act,
+) -> Result<(), AllocError>
+    ensures text { OnOk result (out.new.items ≡ out.old.items ++ act_text scenario.now who act.now) }
+    ensures fits { OnOk result (ActFits act.now) }
+{
+    match act {
+        Act::Tick => put_word(out, b"TICK"),
+        Act::StartActive => put_word(out, b"START ACTIVE"),
+        Act::StartStandby => put_word(out, b"START STANDBY"),
+        Act::Abend => put_word(out, b"ABEND"),
+        Act::Confirm(inc) => put_numbered(alloc, out, b"CONFIRM ", *inc),
+        Act::Reply(go) => put_both(out, b"REPLY ", go_word(*go)),
+        Act::Cebt(command, reply) => put_reply(alloc, out, *command, *reply),
+        Act::Exit(answer) => put_both(out, b"EXIT ", answer_word(*answer)),
+        Act::Reserve => put_word(out, b"RESERVE"),
+        Act::CtlRead => put_word(out, b"CTLREAD"),
+        Act::CtlWrite(control) => put_write(alloc, out, scenario, control),
+        Act::Release => put_word(out, b"RELEASE"),
+        Act::Signal1(signal) => put_signal(alloc, out, b"SIGNAL1 ", signal),
+        Act::Signal2(signal) => put_signal(alloc, out, b"SIGNAL2 ", signal),
+        Act::Look1 => put_word(out, b"LOOK1"),
+        Act::Look2 => put_word(out, b"LOOK2"),
+        Act::Decide(decided) => put_decide(alloc, out, *decided),
+        Act::MsgRead(slot) => put_numbered(alloc, out, b"MSGREAD ", *slot),
+        Act::MsgClose(slot) => put_numbered(alloc, out, b"MSGCLOSE ", *slot),
+        Act::MsgBody(slot, message) => put_sent(alloc, out, b"MSGBODY ", *slot, message),
+        Act::MsgOpen(slot, message) => put_sent(alloc, out, b"MSGOPEN ", *slot, message),
+        Act::LogRead(block) => put_numbered(alloc, out, b"LOGREAD ", *block),
+        Act::LogLook(place) => put_numbered(alloc, out, b"LOGLOOK ", *place),
+        Act::LogClose(place) => put_numbered(alloc, out, b"LOGCLOSE ", *place),
+        Act::LogBody(place, rec) => put_logged(alloc, out, b"LOGBODY ", *place, rec),
+        Act::LogOpen(place, rec) => put_logged(alloc, out, b"LOGOPEN ", *place, rec),
+        Act::KpRead(slot) => put_numbered(alloc, out, b"KPREAD ", *slot as u32),
+        Act::KpClose(slot) => put_numbered(alloc, out, b"KPCLOSE ", *slot as u32),
+        Act::KpBody(slot, keypoint) => put_keyed(alloc, out, b"KPBODY ", *slot, keypoint),
+        Act::KpOpen(slot, keypoint) => put_keyed(alloc, out, b"KPOPEN ", *slot, keypoint),
+        Act::FileRead(number) => put_numbered(alloc, out, b"FILEREAD ", *number as u32),
+        Act::FileWrite(unit, number, value) => put_file_write(alloc, out, *unit, *number, value),
+        Act::Undo(number, _) => put_numbered(alloc, out, b"UNDO ", *number as u32),
+        Act::Item(number) => put_numbered(alloc, out, b"ITEM ", *number),
+        Act::Clt(number) => put_clt(alloc, out, scenario, who, *number),
+        Act::Restarted => put_word(out, b"RESTARTED"),
+        Act::Ended(why) => put_ended(alloc, out, *why),
+        Act::NoAct => Ok(()),
+    }
 }

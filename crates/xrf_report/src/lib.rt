@@ -1,8 +1,25 @@
-//! The document of a run: the canonical scenario, its choices, and the report.
+//! The document of a run of a pair: the canonical scenario, its choices, and the report.
 #![tactic(auto)]
 
 mod acts;
-mod report;
+mod answers;
+mod decisions;
+mod drawn;
+mod entries;
+mod files;
+mod images;
+mod items;
+mod jobs;
+mod logged;
+mod messages;
+mod records;
+mod reporting;
+mod standing;
+mod terminals;
+#[cfg(test)]
+mod tests;
 mod whole;
+mod words;
 
-pub use whole::document;
+pub use drawn::summary;
+pub use whole::{document, report};

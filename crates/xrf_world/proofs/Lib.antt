@@ -1,3 +1,12 @@
-pub mod RunLaws
-pub mod LogLaws
-pub mod BaseLaws
+pub mod SeatLaws
+pub mod WantLaws
+pub mod TimeLaws
+pub mod FollowLaws
+pub mod ActLaws
+pub mod StopLaws
+pub mod ReachLaws
+pub mod BesideLaws
+pub mod MadeLaws
+pub mod ItemLaws
+pub mod ChoiceLaws
+pub mod WorldLaws

@@ -1,7 +1,8 @@
-pub mod Base
-pub mod Trace
-pub mod Next
-pub mod Items
-pub mod Runs
+pub mod Wants
+pub mod Seats
+pub mod Counts
+pub mod Places
 pub mod Standing
-pub mod Laws
+pub mod Making
+pub mod Report
+pub mod Runs

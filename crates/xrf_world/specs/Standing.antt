@@ -1,38 +1,45 @@
--- How a World's fields stand for its trace.
-use Rattle.std.specs.Prelude.{◌≡◌, ℕ, ◌+◌, ◌<◌, List, length, Option, None, reverse, slice_index_or}
+-- How a pair stands for a trace, and what a World is.
+use Rattle.std.specs.Prelude.{◌≡◌, ◌≤◌, ◌<◌, ℕ, List, length, reverse}
+use Rattle.xrf_base.specs.declared.site.Site.{Site}
+use Rattle.xrf_base.specs.declared.site.Site.TheVariants as site
+use Rattle.xrf_devices.specs.Standing.{StandsFor}
 use Rattle.xrf_setup.specs.declared.ranges.TheConstants.{CHOICES_MOST}
-use Rattle.xrf_world.specs.Base.{Base}
-use Rattle.xrf_world.specs.declared.entry.Entry.{Entry}
-use Rattle.xrf_world.specs.declared.progress.Progress.{Progress}
-use Rattle.xrf_world.specs.declared.kept.Kept.{Kept}
-use Rattle.xrf_world.specs.Items.{answer}
-use Rattle.xrf_world.specs.Runs.{IsRun}
-use Rattle.xrf_world.specs.Trace as trace
-use Rattle.xrf_world.specs.Trace.{has_commit, log, region_number}
+use Rattle.xrf_trace.specs.declared.entry.Entry.{Entry}
+use Rattle.xrf_trace.specs.Runs.{IsRun}
+use Rattle.xrf_trace.specs.Scenario.{IsScen, Scen}
+use Rattle.xrf_world.specs.declared.middle.Middle.{Middle}
+use Rattle.xrf_world.specs.declared.pair.Pair.{Pair}
+use Rattle.xrf_world.specs.declared.place.Place.{Place}
+use Rattle.xrf_world.specs.Counts.{CountsAre}
+use Rattle.xrf_world.specs.Places.{PlaceIs}
 
--- a list keeps at each place, from 0, what a function gives the number that is one more
-abbrev pub KeptByNumber : {A : Type 0} → List (Option A) → (ℕ → Option A) → Type 0
-KeptByNumber xs f = (k : ℕ) → k < length xs → slice_index_or xs k None ≡ f (k + 1)
+-- what both sites share: the data sets and what is counted are those of the trace
+pub record MiddleIs (middle : Middle) (t : List Entry) : Type 0 where
+  pub data_sets : StandsFor middle.data_sets middle.scenario t
+  pub counts : CountsAre middle.counts middle.scenario t
 
--- what is kept of a trace
-pub record Follows (p : Progress) (t : List Entry) : Type 0 where
-  pub newest : p.newest ≡ trace.newest t
-  pub counts : p.counts ≡ trace.counts t
-  pub committed : p.committed ≡ has_commit (log t)
-  pub control : p.control ≡ trace.control t
-  pub number : p.number ≡ region_number t
-  pub job : p.job ≡ trace.job t
+-- it, and what is kept of one site
+pub record StandsAt (m : Middle) (p : Place) (t : List Entry) (x : Site) : Type 0 where
+  pub middle : MiddleIs m t
+  pub place : PlaceIs p m.scenario t x
 
--- what is kept of a trace with its file and its answers: FILE places, and one for each item
-pub record Stands (kept : Kept) (s : Base) (t : List Entry) : Type 0 where
-  pub progress : Follows kept.progress t
-  pub image : KeptByNumber kept.image.items (trace.image s t)
-  pub answers : KeptByNumber kept.answers.items (answer s t)
-  pub places : length kept.image.items ≡ s.file
-  pub items : length kept.answers.items ≡ length s.work
+-- it, and what is kept of both sites
+pub record Stands (pair : Pair) (t : List Entry) : Type 0 where
+  pub middle : MiddleIs pair.middle t
+  pub a : PlaceIs pair.a pair.middle.scenario t site.A
+  pub b : PlaceIs pair.b pair.middle.scenario t site.B
 
--- a World: its trace is that of a run, what is kept stands for it, and the journal has its memory
-pub record IsWorld (s : Base) (journal : List Entry) (capacity : ℕ) (kept : Kept) : Type 0 where
-  pub run : IsRun s (reverse journal)
-  pub stands : Stands kept s (reverse journal)
+-- a run of a scenario, which one choice more may be added to
+pub record Goes (s : Scen) (t : List Entry) : Type 0 where
+  pub scen : IsScen s
+  pub run : IsRun s t
+  pub few : length t < CHOICES_MOST
+
+-- a World: its pair stands for the trace that its journal is, oldest first, which is that of a run; the journal has
+-- its memory
+pub record IsWorld (pair : Pair) (journal : List Entry) (capacity : ℕ) : Type 0 where
+  pub scen : IsScen pair.middle.scenario
+  pub run : IsRun pair.middle.scenario (reverse journal)
+  pub few : length journal ≤ CHOICES_MOST
+  pub stands : Stands pair (reverse journal)
   pub room : capacity ≡ CHOICES_MOST

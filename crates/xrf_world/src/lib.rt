@@ -1,22 +1,29 @@
-//! The pair at work: a run of site A's region, one choice at a time, and its journal.
+//! The pair at work: two sites, the data sets and the journal of what happened, one choice at a time.
 #![tactic(auto)]
 
-pub mod act;
-mod answers;
-mod base;
-pub mod entry;
-mod kept;
-pub mod laws;
-mod next;
-mod outcome;
-mod progress;
-pub mod state;
-#[cfg(test)]
-mod tests;
-pub mod world;
+mod choosing;
+mod counts;
+mod items;
+mod job;
+mod log_count;
+mod making;
+mod middle;
+mod pair;
+mod place;
+mod reaching;
+mod readers;
+mod reading;
+mod refused;
+mod refusing;
+mod resting;
+mod seat;
+mod settings;
+mod starting;
+mod state;
+mod steps;
+mod stopping;
+mod wants;
+mod world;
 
-pub use act::{Act, Control, Decided, LogRec, Owner, OwnerState, Signal};
-pub use entry::{Entry, Refused, Who};
-pub use laws::runs_are_runs;
 pub use state::{ItemState, JobState, LogCounts};
 pub use world::World;

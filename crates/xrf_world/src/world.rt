@@ -1,36 +1,41 @@
-//! The World: the pair, its data sets and the journal of what happened.
+//! The World: a scenario at work, with the journal of what has happened.
 
-ghost use Rattle.std.specs.Prelude.{◌≡◌, ◌+◌, ◌<◌, ◌≤◌, [], ◌∷◌, Ok, IfOk, length, reverse, vec_capacity};
-ghost use Rattle.xrf_setup.specs.declared.choice.Choice.{Choice};
-ghost use Rattle.xrf_scenario.specs.Built.{IsBuilt};
-ghost use Rattle.xrf_world.specs.Base.{base_of};
-ghost use Rattle.xrf_world.specs.Trace.{taken, log_counts};
-ghost use Rattle.xrf_world.specs.Trace as trace;
-ghost use Rattle.xrf_world.specs.Items.{answer, state_of};
-ghost use Rattle.xrf_world.specs.Runs.{outcome};
-ghost use Rattle.xrf_world.specs.Standing.{IsWorld, KeptByNumber};
+ghost use Rattle.std.specs.Prelude.{◌≡◌, ◌<◌, ◌≤◌, [], ◌∷◌, ◌++◌, Some, Ok, IfOk, IsTrue, length, reverse, vec_len, vec_capacity};
+ghost use Rattle.xrf_exit.specs.Exit.{is_allowed};
+ghost use Rattle.xrf_exit.specs.declared.Notice.{Notice as Told};
+ghost use Rattle.xrf_log.specs.Flight.{flight};
+ghost use Rattle.xrf_setup.specs.declared.choice.Choice.TheVariants as choice;
+ghost use Rattle.xrf_trace.specs.FileIsBook.{IsBookAt};
+ghost use Rattle.xrf_trace.specs.Log.{log};
+ghost use Rattle.xrf_trace.specs.Promises.{Promises};
+ghost use Rattle.xrf_trace.specs.Runs.{IsRun};
+ghost use Rattle.xrf_trace.specs.Safe.{Safe};
+ghost use Rattle.xrf_trace.specs.Scenario.{IsScen};
+ghost use Rattle.xrf_world.specs.Report.{notice_at};
+ghost use Rattle.xrf_world.specs.Runs.{Applied};
+ghost use Rattle.xrf_world.specs.Standing.{IsWorld, Stands};
 
-use crate::act::Control;
-use crate::answers::{answer_at, state_by};
-use crate::base::Base;
-use crate::entry::{Entry, Refused, push_entry};
-use crate::kept::Kept;
-use crate::outcome::entry_by;
-use crate::state::{ItemState, JobState, LogCounts};
+use crate::pair::Pair;
 use std::alloc::{AllocError, Global};
 use std::marker::Model;
-use xrf_base::Value;
+use xrf_base::{Name8, Site, UnitId};
+use xrf_cavm::Decided;
+use xrf_cebt::{Cebt, CebtReply};
+use xrf_ctl::{Control, Signal};
+use xrf_exit::ExitAnswer;
+use xrf_history::EndWhy;
+use xrf_logrec::{Keypoint, LogRec};
+use xrf_msg::Message;
 use xrf_setup::ranges::CHOICES_MOST;
-use xrf_setup::{Choice, Scenario};
+use xrf_setup::{Choice, Landing, Scenario, TornBytes};
+use xrf_trace::{Entry, Refused};
 
-/// A scenario at work. Contracts see what runs of it and the trace, the newest entry first (`Run` of
-/// the specs).
+/// A scenario at work. Contracts see the scenario and the trace, the newest entry first (`Run` of the specs).
 #[derive(Drop)]
 pub struct World {
-    base: Base,
+    pub(crate) pair: Pair,
     // oldest first
-    journal: Vec<Entry>,
-    kept: Kept,
+    pub(crate) journal: Vec<Entry>,
 }
 
 impl Model for World {
@@ -39,61 +44,101 @@ impl Model for World {
 
     ghost Value = { Run };
 
-    ghost view = { λ w. record { scenario = w.base; trace = reverse w.journal.items } };
+    ghost view = { λ w. record { scenario = w.pair.middle.scenario; trace = reverse w.journal.items } };
 
     ghost use Rattle.xrf_world.specs.Standing.{IsWorld};
 
-    ghost invariant = { λ w. IsWorld w.base w.journal.items (vec_capacity w.journal) w.kept };
+    ghost invariant = { λ w. IsWorld w.pair w.journal.items (vec_capacity w.journal) };
 }
 
-fn add_entry(base: &Base, journal: &mut Vec<Entry>, kept: &mut Kept, entry: &Entry)
-    requires world { IsWorld base.now journal.old.items (vec_capacity journal.old) kept.old }
-    requires made { (c : Choice) × (outcome base.now (reverse journal.old.items) c ≡ Ok entry.now) }
-    requires room { length journal.old.items < CHOICES_MOST }
-    ensures world { IsWorld base.now journal.new.items (vec_capacity journal.new) kept.new }
-    ensures trace { reverse journal.new.items ≡ entry.now ∷ reverse journal.old.items }
+// an entry more, for which there is room
+fn push_entry(journal: &mut Vec<Entry>, entry: Entry)
+    requires room { vec_len journal.old < vec_capacity journal.old }
+    ensures items { journal.new.items ≡ journal.old.items ++ entry ∷ [] }
+    ensures capacity { vec_capacity journal.new ≡ vec_capacity journal.old }
 {
-    kept.add(base, entry);
-    push_entry(journal, entry);
+    // the check finds the layout of an entry only where each type in it is named
+    let _name: Option<Name8> = None;
+    let _control: Option<Control> = None;
+    let _message: Option<Message> = None;
+    let _rec: Option<LogRec> = None;
+    let _decided: Option<Decided> = None;
+    let _landing: Option<Landing> = None;
+    let _torn: Option<TornBytes> = None;
+    let _keypoint: Option<Keypoint> = None;
+    let _signal: Option<Signal> = None;
+    let _why: Option<EndWhy> = None;
+    let _cebt: Option<Cebt> = None;
+    let _reply: Option<CebtReply> = None;
+    let _exit: Option<ExitAnswer> = None;
+    let _unit: Option<UnitId> = None;
+    let act = entry.act;
+    let land = entry.land;
+    let who = entry.who;
+    journal.push_reserved(Entry {
+        tick: entry.tick,
+        who,
+        inc: entry.inc,
+        act,
+        land,
+    });
+}
+
+// a choice, and its entry
+fn advance(pair: &mut Pair, journal: &mut Vec<Entry>, choice: &Choice) -> Result<(), Refused>
+    requires world { IsWorld pair.old journal.old.items (vec_capacity journal.old) }
+    requires room { length journal.old.items < CHOICES_MOST }
+    ensures world { IsWorld pair.new journal.new.items (vec_capacity journal.new) }
+    ensures applied { Applied (record { scenario = pair.old.middle.scenario; trace = reverse journal.old.items }) choice.now result
+        (record { scenario = pair.new.middle.scenario; trace = reverse journal.new.items }) }
+{
+    match pair.choose(choice) {
+        Ok(entry) => {
+            push_entry(journal, entry);
+            Ok(())
+        }
+        Err(refused) => Err(refused),
+    }
 }
 
 impl World {
-    ghost use Rattle.xrf_world.specs.Runs.{Applied, IsRun};
-
     /// A World before the first choice. It takes all memory that a run needs.
     pub fn new(alloc: Global, scenario: &Scenario) -> Result<World, AllocError>
-        requires built { IsBuilt scenario.now }
-        ensures { IfOk result (λ world. world ≡ record { scenario = base_of scenario.now; trace = [] }) }
-    {
-        World::of_base(alloc, Base::new(alloc, scenario)?)
-    }
-
-    // of what runs
-    fn of_base(alloc: Global, base: Base) -> Result<World, AllocError>
-        ensures { IfOk result (λ world. world ≡ record { scenario = base; trace = [] }) }
+        ensures world { IfOk result (λ world. world ≡ record { scenario = scenario.now; trace = [] }) }
+        ensures scenario { IfOk result (λ world. IsScen scenario.now) }
     {
         let journal = Vec::with_capacity(alloc, CHOICES_MOST)?;
-        let kept = Kept::new(alloc, &base)?;
-        Ok(World {
-            base,
-            journal,
-            kept,
-        })
+        let pair = Pair::new(alloc, scenario)?;
+        Ok(World { pair, journal })
     }
 
-    /// Makes a choice: one entry is added, or the choice is refused and nothing changes. It takes
-    /// no memory.
+    /// Makes a choice: one entry is added, or the choice is refused and nothing changes. It takes no memory. The run
+    /// stays safe, and wherever no unit is in flight the file is the book.
     pub fn apply(&mut self, choice: &Choice) -> Result<(), Refused>
         requires room { length self.old.trace < CHOICES_MOST }
         ensures applied { Applied self.old choice.now result self.new }
+        ensures safe { Safe self.new.scenario self.new.trace }
+        ensures promises { Promises self.new.scenario self.new.trace }
+        ensures book { flight (log self.new.trace) ≡ [] → IsBookAt self.new.scenario self.new.trace }
     {
-        match entry_by(&self.base, &self.kept.progress, choice) {
-            Ok(entry) => {
-                add_entry(&self.base, &mut self.journal, &mut self.kept, &entry);
-                Ok(())
-            }
-            Err(refused) => Err(refused),
-        }
+        advance(&mut self.pair, &mut self.journal, choice)
+    }
+
+    /// The exit of the job at a site has answered the notice that is pending: the entry of that EXIT is added. It takes
+    /// no memory.
+    pub fn exit_said(&mut self, site: Site, answer: ExitAnswer)
+        requires room { length self.old.trace < CHOICES_MOST }
+        requires pending { (told : Told) × (notice_at self.old.scenario self.old.trace site ≡ Some told) × IsTrue (is_allowed told answer) }
+        ensures said { Applied self.old (choice.Exit site answer) (Ok tt) self.new }
+        ensures safe { Safe self.new.scenario self.new.trace }
+        ensures promises { Promises self.new.scenario self.new.trace }
+        ensures book { flight (log self.new.trace) ≡ [] → IsBookAt self.new.scenario self.new.trace }
+    {
+        let _ = advance(
+            &mut self.pair,
+            &mut self.journal,
+            &Choice::Exit(site, answer),
+        );
     }
 
     /// The journal, the oldest entry first: that of a run.
@@ -101,52 +146,9 @@ impl World {
         ensures journal { result.now ≡ reverse self.now.trace }
         ensures length { length result.now ≡ length self.now.trace }
         ensures run { IsRun self.now.scenario self.now.trace }
+        ensures scenario { IsScen self.now.scenario }
+        ensures few { length self.now.trace ≤ CHOICES_MOST }
     {
         self.journal.as_slice()
-    }
-
-    /// The control record.
-    pub fn control(&self) -> Control
-        ensures { result ≡ trace.control self.now.trace }
-    {
-        self.kept.progress.control
-    }
-
-    /// The state of site A's region.
-    pub fn job(&self) -> JobState
-        ensures { result ≡ trace.job self.now.trace }
-    {
-        self.kept.progress.job
-    }
-
-    /// How many items were taken.
-    pub fn item_count(&self) -> usize
-        ensures count { result ≡ taken self.now.trace }
-        ensures within { result ≤ length self.now.scenario.work }
-    {
-        self.kept.progress.counts.taken as usize
-    }
-
-    /// The state of an item that was taken, by its place from 0.
-    pub fn item_state(&self, k: usize) -> ItemState
-        requires taken { k < taken self.now.trace }
-        ensures { result ≡ state_of (answer self.now.scenario self.now.trace (k + 1)) }
-    {
-        state_by(answer_at(&self.kept.answers, k))
-    }
-
-    /// The numbers of the unit log.
-    pub fn log_counts(&self) -> LogCounts
-        ensures { result ≡ log_counts self.now.trace }
-    {
-        self.kept.progress.log_counts()
-    }
-
-    /// The file's records: FILE places, the record of number n at n - 1.
-    pub fn image(&self) -> &[Option<Value>]
-        ensures records { KeptByNumber result.now (trace.image self.now.scenario self.now.trace) }
-        ensures places { length result.now ≡ self.now.scenario.file }
-    {
-        self.kept.image.as_slice()
     }
 }

@@ -1,6 +1,6 @@
 -- The choice at the place adds its entry, and the run goes on behind it.
 use Rattle.std.proofs.Common.{◌+◌, ap, sym, ◌∙◌, drop}
-use Rattle.xrf_world.specs.Runs.{outcome, run, run_from}
+use Rattle.xrf_trace.specs.Runs.{outcome, run, run_from}
 use Rattle.xrf.proofs.MadeLaws.{made-on, drop-next}
 use Rattle.xrf.proofs.running.make_all.Goals as goal
 

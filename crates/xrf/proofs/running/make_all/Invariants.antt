@@ -1,5 +1,5 @@
 use Rattle.std.proofs.Common.{◌≡◌, drop, length}
-use Rattle.xrf_world.specs.Runs.{run, run_from}
+use Rattle.xrf_trace.specs.Runs.{run, run_from}
 use Rattle.xrf.proofs.running.make_all.Given as goal
 
 -- the run of the choices left, on the trace so far, is the run of all

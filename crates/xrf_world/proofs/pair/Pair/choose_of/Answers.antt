@@ -1,0 +1,27 @@
+use Rattle.std.proofs.Common.{sym, subst, ◌≡◌, Some}
+use Rattle.xrf_base.specs.declared.site.Site.{Site}
+use Rattle.xrf_base.specs.declared.site.Site.TheVariants as site
+use Rattle.xrf_world.specs.Making.{MakesAt}
+use Rattle.xrf_world.specs.Standing.{StandsAt}
+use Rattle.xrf_world.proofs.BesideLaws.{of-a, of-b}
+use Rattle.xrf_world.proofs.pair.Pair.choose_of.Goals as goal
+
+pub returns-in-A : goal.returns-in-A
+returns-in-A c = λ t stands goes chosen.
+    let old = c.args.self.now in
+    let here : StandsAt old.middle old.a t c.args.site =
+    subst (λ (x : Site). StandsAt old.middle old.a t x) (sym c.in-A.is) (record { middle = stands.middle; place = stands.a }) in
+    let made : MakesAt old.middle old.a t c.args.site c.args.choice.now c.choose_at.result c.choose_at.new.middle c.choose_at.new.place =
+    c.choose_at.ensures t here goes (c.is_reserve_free-is_free.ensures t stands) chosen in
+    of-a old t c.args.choice.now c.choose_at.result c.choose_at.new.middle c.choose_at.new.place stands goes
+    (subst (λ (x : Site). MakesAt old.middle old.a t x c.args.choice.now c.choose_at.result c.choose_at.new.middle c.choose_at.new.place) c.in-A.is made)
+
+pub returns-in-B : goal.returns-in-B
+returns-in-B c = λ t stands goes chosen.
+    let old = c.args.self.now in
+    let here : StandsAt old.middle old.b t c.args.site =
+    subst (λ (x : Site). StandsAt old.middle old.b t x) (sym c.in-B.is) (record { middle = stands.middle; place = stands.b }) in
+    let made : MakesAt old.middle old.b t c.args.site c.args.choice.now c.choose_at-in-B.result c.choose_at-in-B.new.middle c.choose_at-in-B.new.place =
+    c.choose_at-in-B.ensures t here goes (c.is_reserve_free-is_free.ensures t stands) chosen in
+    of-b old t c.args.choice.now c.choose_at-in-B.result c.choose_at-in-B.new.middle c.choose_at-in-B.new.place stands goes
+    (subst (λ (x : Site). MakesAt old.middle old.b t x c.args.choice.now c.choose_at-in-B.result c.choose_at-in-B.new.middle c.choose_at-in-B.new.place) c.in-B.is made)

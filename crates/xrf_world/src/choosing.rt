@@ -1,0 +1,167 @@
+//! One choice to a pair: a tick, a confirmation, or a choice of a site.
+
+ghost use Rattle.std.specs.Prelude.{◌≡◌, ◌≤◌, List, Some, Ok};
+ghost use Rattle.xrf_setup.specs.declared.choice.Choice.TheVariants as choice;
+ghost use Rattle.xrf_trace.specs.declared.entry.Entry.{Entry as Made};
+ghost use Rattle.xrf_trace.specs.Jobs.{live};
+ghost use Rattle.xrf_trace.specs.Refusals.{may_confirm};
+ghost use Rattle.xrf_trace.specs.Words.{reserve_is_free};
+ghost use Rattle.xrf_world.specs.Making.{Makes, MakesAt, site_of};
+ghost use Rattle.xrf_world.specs.Standing.{StandsAt, Stands, Goes};
+
+use crate::middle::Middle;
+use crate::pair::Pair;
+use crate::place::Place;
+use crate::reaching::{abend, command, exit, reply};
+use crate::starting::{start_active, start_standby};
+use crate::steps::{fail, lose, step};
+use crate::stopping::stop;
+use xrf_base::{Inc, Site};
+use xrf_setup::Choice;
+use xrf_trace::{Act, Entry, Land, Refused, Who};
+
+/// The site of a choice, none of a tick and of a confirmation.
+pub(crate) fn site_of(choice: &Choice) -> Option<Site>
+    ensures { result ≡ site_of choice.now }
+{
+    match choice {
+        Choice::Tick => None,
+        Choice::Confirm(_) => None,
+        Choice::Step(site) => Some(*site),
+        Choice::Lose(site) => Some(*site),
+        Choice::Stop(site, _) => Some(*site),
+        Choice::StartActive(site) => Some(*site),
+        Choice::StartStandby(site) => Some(*site),
+        Choice::Abend(site) => Some(*site),
+        Choice::Reply(site, _) => Some(*site),
+        Choice::Cebt(site, _) => Some(*site),
+        Choice::Exit(site, _) => Some(*site),
+        Choice::Fail(site, _) => Some(*site),
+    }
+}
+
+// a choice of a site, the reserve being free or not
+fn choose_at(
+    middle: &mut Middle,
+    place: &mut Place,
+    site: Site,
+    choice: &Choice,
+    is_free: bool,
+) -> Result<Entry, Refused>
+    requires { (t : List Made) × StandsAt middle.old place.old t site × Goes middle.old.scenario t × (is_free ≡ reserve_is_free t)
+        × (site_of choice.now ≡ Some site) }
+    ensures { (t : List Made) → StandsAt middle.old place.old t site → Goes middle.old.scenario t → is_free ≡ reserve_is_free t
+        → site_of choice.now ≡ Some site → MakesAt middle.old place.old t site choice.now result middle.new place.new }
+{
+    match choice {
+        Choice::Step(_) => step(middle, place, site, is_free),
+        Choice::Lose(_) => lose(middle, place, site),
+        Choice::Stop(_, cut) => stop(middle, place, site, cut),
+        Choice::StartActive(_) => start_active(middle, place, site),
+        Choice::StartStandby(_) => start_standby(middle, place, site),
+        Choice::Abend(_) => abend(middle, place, site),
+        Choice::Reply(_, go) => reply(middle, place, site, *go),
+        Choice::Cebt(_, asked) => command(middle, place, site, *asked),
+        Choice::Exit(_, said) => exit(middle, place, site, *said),
+        Choice::Fail(_, cut) => fail(middle, place, site, cut),
+        Choice::Tick => Err(Refused::NotEnabled),
+        Choice::Confirm(_) => Err(Refused::NotEnabled),
+    }
+}
+
+impl Pair {
+    /// Whether nobody holds the reserve.
+    pub(crate) fn is_reserve_free(&self) -> bool
+        ensures { (t : List Made) → Stands self.now t → result ≡ reserve_is_free t }
+    {
+        !self.a.kept.reserves && !self.b.kept.reserves
+    }
+
+    // a choice of a site
+    fn choose_of(&mut self, site: Site, choice: &Choice) -> Result<Entry, Refused>
+        requires { (t : List Made) × Stands self.old t × Goes self.old.middle.scenario t × (site_of choice.now ≡ Some site) }
+        ensures { (t : List Made) → Stands self.old t → Goes self.old.middle.scenario t → site_of choice.now ≡ Some site
+            → Makes self.old t choice.now result self.new }
+    {
+        let is_free = self.is_reserve_free();
+        match site {
+            Site::A => choose_at(&mut self.middle, &mut self.a, site, choice, is_free),
+            Site::B => choose_at(&mut self.middle, &mut self.b, site, choice, is_free),
+        }
+    }
+
+    // TICK
+    fn tick(&mut self) -> Entry
+        requires { (t : List Made) × Stands self.old t × Goes self.old.middle.scenario t }
+        ensures { (t : List Made) → Stands self.old t → Goes self.old.middle.scenario t → Makes self.old t choice.Tick (Ok result) self.new }
+    {
+        let tick = self.middle.counts.tick + 1;
+        let entry = Entry {
+            tick,
+            who: Who::Env,
+            inc: 0,
+            act: Act::Tick,
+            land: Land::Full,
+        };
+        self.a.seat.ticked(tick);
+        self.b.seat.ticked(tick);
+        self.middle.follow(&entry);
+        entry
+    }
+
+    /// Whether a job holds a number, which is not 0.
+    pub(crate) fn is_live(&self, number: Inc) -> bool
+        requires { 1 ≤ number }
+        ensures { (t : List Made) → Stands self.now t → result ≡ live self.now.middle.scenario t number }
+    {
+        self.a.seat.holds(number) || self.b.seat.holds(number)
+    }
+
+    /// Whether a number may be confirmed: it was given, and no job holds it.
+    pub(crate) fn may_confirm(&self, number: Inc) -> bool
+        requires { (t : List Made) × Stands self.now t }
+        ensures { (t : List Made) → Stands self.now t → result ≡ may_confirm self.now.middle.scenario t number }
+    {
+        if number == 0 {
+            return false;
+        }
+        if number > self.middle.data_sets.control().last() {
+            return false;
+        }
+        !self.is_live(number)
+    }
+
+    // CONFIRM
+    fn confirm(&mut self, number: Inc) -> Result<Entry, Refused>
+        requires { (t : List Made) × Stands self.old t × Goes self.old.middle.scenario t }
+        ensures { (t : List Made) → Stands self.old t → Goes self.old.middle.scenario t → Makes self.old t (choice.Confirm number) result self.new }
+    {
+        if !self.may_confirm(number) {
+            return Err(Refused::Dishonest);
+        }
+        let entry = Entry {
+            tick: self.middle.counts.tick,
+            who: Who::Env,
+            inc: 0,
+            act: Act::Confirm(number),
+            land: Land::Full,
+        };
+        self.middle.follow(&entry);
+        Ok(entry)
+    }
+
+    /// Makes a choice: gives the entry that it adds, or is refused and changes nothing.
+    pub(crate) fn choose(&mut self, choice: &Choice) -> Result<Entry, Refused>
+        requires { (t : List Made) × Stands self.old t × Goes self.old.middle.scenario t }
+        ensures { (t : List Made) → Stands self.old t → Goes self.old.middle.scenario t → Makes self.old t choice.now result self.new }
+    {
+        match choice {
+            Choice::Tick => Ok(self.tick()),
+            Choice::Confirm(number) => self.confirm(*number),
+            other => match site_of(other) {
+                Some(site) => self.choose_of(site, other),
+                None => Err(Refused::NotEnabled),
+            },
+        }
+    }
+}

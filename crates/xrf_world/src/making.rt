@@ -1,0 +1,77 @@
+//! The acts of jobs, as they are made.
+
+ghost use Rattle.std.specs.Prelude.{◌≡◌, ◌∷◌, List, Some};
+ghost use Rattle.xrf_history.specs.declared.settings.Settings.{Settings};
+ghost use Rattle.xrf_history.specs.Events.{Event};
+ghost use Rattle.xrf_trace.specs.declared.entry.Entry.{Entry as Made};
+ghost use Rattle.xrf_trace.specs.Words.{who_at};
+ghost use Rattle.xrf_world.specs.Making.{MayMake, inc_of_want};
+ghost use Rattle.xrf_world.specs.Seats.{SeatIs, after_want};
+ghost use Rattle.xrf_world.specs.Standing.{StandsAt};
+
+use crate::middle::Middle;
+use crate::place::Place;
+use crate::seat::Seat;
+use crate::wants::act_of_want;
+use xrf_base::{Inc, Site};
+use xrf_history::{Answer, Want};
+use xrf_trace::{Entry, Land, Who};
+
+pub(crate) fn who_at(site: Site) -> Who
+    ensures { result ≡ who_at site }
+{
+    match site {
+        Site::A => Who::A,
+        Site::B => Who::B,
+    }
+}
+
+pub(crate) fn inc_of_want(want: &Want, inc: Inc) -> Inc
+    ensures { result ≡ inc_of_want want.now inc }
+{
+    match want {
+        Want::CtlWrite(written) => { if inc == 0 { written.last() } else { inc } }
+        _ => inc,
+    }
+}
+
+// a job that has ended is gone
+fn vacate_if_ended(seat: &mut Seat, want: &Want)
+    ensures { (p : Settings) (h : List Event) → SeatIs seat.old p (Some h) → SeatIs seat.new p (after_want want.now h) }
+{
+    match want {
+        Want::Ended(_) => seat.vacate(),
+        _ => {}
+    }
+}
+
+/// Makes an act that the job at a site wants, lands what is to land of it, and hands the job an answer.
+pub(crate) fn make_act(
+    middle: &mut Middle,
+    place: &mut Place,
+    site: Site,
+    want: &Want,
+    land: Land,
+    answer: &Answer,
+) -> Entry
+    requires { (t : List Made) × StandsAt middle.old place.old t site × MayMake middle.old.scenario t site want.now land answer.now }
+    ensures made { (t : List Made) (m : MayMake middle.old.scenario t site want.now land answer.now) → StandsAt middle.old place.old t site
+        → (result ≡ m.entry) × StandsAt middle.new place.new (m.entry ∷ t) site }
+    ensures scenario { middle.new.scenario ≡ middle.old.scenario }
+{
+    let inc = inc_of_want(want, place.seat.inc());
+    let number = place.kept.items.answers.len() as u32 + 1;
+    let given = place.seat.take(answer);
+    let act = act_of_want(number, place.seat.decided(), want);
+    vacate_if_ended(&mut place.seat, want);
+    let entry = Entry {
+        tick: middle.counts.tick,
+        who: who_at(site),
+        inc,
+        act,
+        land,
+    };
+    middle.follow(&entry);
+    place.kept.follow(&entry, given);
+    entry
+}

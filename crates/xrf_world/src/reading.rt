@@ -1,0 +1,95 @@
+//! What an act is answered, read off the data sets.
+
+ghost use Rattle.std.specs.Prelude.{◌≡◌, ◌+◌, ◌*◌, ◌≤◌, List, Some, slice_get};
+ghost use Rattle.xrf_devices.specs.Standing.{StandsFor};
+ghost use Rattle.xrf_history.specs.declared.answer.Answer.{Answer as An};
+ghost use Rattle.xrf_history.specs.Events.{Event};
+ghost use Rattle.xrf_trace.specs.Devices.{control};
+ghost use Rattle.xrf_trace.specs.declared.entry.Entry.{Entry as Made};
+ghost use Rattle.xrf_trace.specs.Handing.{answer_of, block_answer, item_handed};
+ghost use Rattle.xrf_trace.specs.Jobs.{hist, known_of};
+ghost use Rattle.xrf_trace.specs.Scenario.{Scen, other};
+ghost use Rattle.xrf_world.specs.Making.{MayRead};
+ghost use Rattle.xrf_world.specs.Standing.{MiddleIs, StandsAt};
+
+use crate::middle::Middle;
+use crate::place::Place;
+use xrf_base::{Item, Site, Tick};
+use xrf_devices::DataSets;
+use xrf_history::{Answer, Want};
+
+fn other(site: Site) -> Site
+    ensures { result ≡ other site }
+{
+    match site {
+        Site::A => Site::B,
+        Site::B => Site::A,
+    }
+}
+
+fn item_handed(at: Tick, item: Option<Item>) -> Answer
+    ensures { result ≡ item_handed at item }
+{
+    match item {
+        Some(item) => Answer::Item(item),
+        None => Answer::Tick(at),
+    }
+}
+
+fn item_at(items: &[Item], place: usize) -> Option<Item>
+    ensures { result ≡ slice_get items.now place }
+{
+    items.get(place).copied()
+}
+
+// the first block of a restart is handed with both keypoint slots
+fn block_answer(data_sets: &DataSets, block: u32, has_read: bool) -> Answer
+    requires { (s : Scen) × (t : List Made) × StandsFor data_sets.now s t × (64 * block + 64 ≤ s.settings.log) }
+    ensures { (s : Scen) (t : List Made) → StandsFor data_sets.now s t → result ≡ block_answer s t block has_read }
+{
+    let mut bytes = [0; 4096];
+    data_sets.log_block(block, &mut bytes);
+    if has_read {
+        Answer::LogBlock(bytes)
+    } else {
+        Answer::Anchored(bytes, data_sets.key_slots())
+    }
+}
+
+impl Middle {
+    // the control record, and what of it is confirmed
+    fn control_answer(&self) -> Answer
+        requires { (t : List Made) × MiddleIs self.now t }
+        ensures { (t : List Made) → MiddleIs self.now t → result ≡ An.Ctl (control t) (known_of t (control t)) }
+    {
+        let held = self.data_sets.control();
+        let known = self.counts.known(&held);
+        Answer::Ctl(held, known)
+    }
+
+    /// What the job at a site is answered for an act that it wants.
+    pub(crate) fn answer(&self, place: &Place, site: Site, want: &Want) -> Answer
+        requires { (t : List Made) × (h : List Event) × StandsAt self.now place.now t site × (hist self.now.scenario t site ≡ Some h) × MayRead self.now.scenario want.now }
+        ensures { (t : List Made) (h : List Event) → StandsAt self.now place.now t site → hist self.now.scenario t site ≡ Some h
+            → result ≡ answer_of self.now.scenario t site h want.now }
+    {
+        let data_sets = &self.data_sets;
+        let at = self.counts.tick;
+        match *want {
+            Want::CtlRead => self.control_answer(),
+            Want::Look1 => Answer::Look1(data_sets.control(), data_sets.signal1(other(site))),
+            Want::Look2 => Answer::Look2(data_sets.signal2(other(site)), at),
+            Want::Decide => Answer::Decide(self.counts.known(&place.seat.seen), at),
+            Want::MsgRead(k) => Answer::MsgSlot(data_sets.message_slot(k)),
+            Want::LogRead(block) => block_answer(data_sets, block, place.seat.has_read),
+            Want::LogLook(number) => Answer::Gate(data_sets.log_gate(&self.scenario, number)),
+            Want::KpRead(k) => Answer::Gate(data_sets.key_gate(k)),
+            Want::FileRead(k) => Answer::FileSlot(data_sets.file_slot(&self.scenario, k)),
+            Want::Item => {
+                let taken = place.kept.items.answers.len();
+                item_handed(at, item_at(self.scenario.work(site), taken))
+            }
+            _ => Answer::Done(at),
+        }
+    }
+}

@@ -1,0 +1,98 @@
+//! STEP, LOSE and FAIL: a job makes its next act, in full, with a signal that is lost, or with a device that fails.
+
+ghost use Rattle.std.specs.Prelude.{◌≡◌, List, Ok};
+ghost use Rattle.xrf_setup.specs.declared.choice.Choice.{Choice};
+ghost use Rattle.xrf_setup.specs.declared.choice.Choice.TheVariants as choice;
+ghost use Rattle.xrf_trace.specs.declared.entry.Entry.{Entry as Made};
+ghost use Rattle.xrf_trace.specs.Words.{reserve_is_free};
+ghost use Rattle.xrf_world.specs.Making.{MakesAt, IsMade};
+ghost use Rattle.xrf_world.specs.Standing.{StandsAt, Goes};
+ghost use Rattle.xrf_world.specs.Wants.{wanted};
+
+use crate::making::make_act;
+use crate::middle::Middle;
+use crate::place::Place;
+use crate::refused::fail_refused;
+use crate::wants::{is_signal, may_make, while_left};
+use xrf_base::Site;
+use xrf_history::{Answer, Want};
+use xrf_setup::Landing;
+use xrf_trace::{Entry, Land, Refused};
+
+/// What is wanted of a site.
+pub(crate) fn wanted(middle: &Middle, place: &Place, site: Site) -> Want
+    requires { (t : List Made) × StandsAt middle.now place.now t site × Goes middle.now.scenario t }
+    ensures { (t : List Made) → StandsAt middle.now place.now t site → result ≡ wanted middle.now.scenario t site }
+{
+    let taken = place.kept.items.answers.len();
+    while_left(place.seat.want(), taken < middle.scenario.work(site).len())
+}
+
+// the next act, in full or as a signal that is lost
+fn make_next(middle: &mut Middle, place: &mut Place, site: Site, want: &Want, land: Land) -> Entry
+    requires { (t : List Made) × (c : Choice) × StandsAt middle.old place.old t site × IsMade middle.old.scenario t site want.now land c }
+    ensures { (t : List Made) (c : Choice) → StandsAt middle.old place.old t site → IsMade middle.old.scenario t site want.now land c
+        → MakesAt middle.old place.old t site c (Ok result) middle.new place.new }
+{
+    let answer = middle.answer(place, site, want);
+    make_act(middle, place, site, want, land, &answer)
+}
+
+/// STEP, the reserve being free or not.
+pub(crate) fn step(
+    middle: &mut Middle,
+    place: &mut Place,
+    site: Site,
+    is_free: bool,
+) -> Result<Entry, Refused>
+    requires { (t : List Made) × StandsAt middle.old place.old t site × Goes middle.old.scenario t × (is_free ≡ reserve_is_free t) }
+    ensures { (t : List Made) → StandsAt middle.old place.old t site → Goes middle.old.scenario t → is_free ≡ reserve_is_free t
+        → MakesAt middle.old place.old t site (choice.Step site) result middle.new place.new }
+{
+    let want = wanted(middle, place, site);
+    if !may_make(is_free, &want) {
+        return Err(Refused::NotEnabled);
+    }
+    Ok(make_next(middle, place, site, &want, Land::Full))
+}
+
+/// LOSE.
+pub(crate) fn lose(middle: &mut Middle, place: &mut Place, site: Site) -> Result<Entry, Refused>
+    requires { (t : List Made) × StandsAt middle.old place.old t site × Goes middle.old.scenario t }
+    ensures { (t : List Made) → StandsAt middle.old place.old t site → Goes middle.old.scenario t
+        → MakesAt middle.old place.old t site (choice.Lose site) result middle.new place.new }
+{
+    let want = wanted(middle, place, site);
+    if !is_signal(&want) {
+        return Err(Refused::NotEnabled);
+    }
+    Ok(make_next(middle, place, site, &want, Land::Lost))
+}
+
+/// FAIL.
+pub(crate) fn fail(
+    middle: &mut Middle,
+    place: &mut Place,
+    site: Site,
+    cut: &Landing,
+) -> Result<Entry, Refused>
+    requires { (t : List Made) × StandsAt middle.old place.old t site × Goes middle.old.scenario t }
+    ensures { (t : List Made) → StandsAt middle.old place.old t site → Goes middle.old.scenario t
+        → MakesAt middle.old place.old t site (choice.Fail site cut.now) result middle.new place.new }
+{
+    let want = wanted(middle, place, site);
+    match fail_refused(cut, &want) {
+        Some(reason) => Err(reason),
+        None => {
+            let at = middle.counts.tick;
+            Ok(make_act(
+                middle,
+                place,
+                site,
+                &want,
+                Land::Fail(*cut),
+                &Answer::Failed(at),
+            ))
+        }
+    }
+}

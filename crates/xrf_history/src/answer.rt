@@ -1,5 +1,6 @@
 //! What a job is answered.
 
+use crate::block::Block;
 use xrf_base::{Item, Tick};
 use xrf_cavm::Known;
 use xrf_cebt::Cebt;
@@ -7,8 +8,8 @@ use xrf_ctl::{Control, Signal};
 use xrf_exit::ExitAnswer;
 
 /// What a job is handed: with its act, or by a tick or a choice that reaches it.
-#[derive(Clone, Copy)]
-pub enum Answer {
+#[derive(Drop)]
+pub enum Answer<'a> {
     /// A second has passed.
     Tick(Tick),
     /// The act is made, at this tick.
@@ -24,9 +25,9 @@ pub enum Answer {
     /// A slot of the message data set.
     MsgSlot([u8; 64]),
     /// A block of the log.
-    LogBlock([u8; 4096]),
+    LogBlock(Block<'a>),
     /// The first block of the log that a restart reads, and both keypoint slots.
-    Anchored([u8; 4096], [u8; 128]),
+    Anchored(Block<'a>, [u8; 128]),
     /// The gate of a slot.
     Gate(u8),
     /// The slot of a file record.

@@ -3,9 +3,11 @@
 #![tactic(auto)]
 
 pub mod answer;
+pub mod block;
 pub mod settings;
 pub mod want;
 
 pub use answer::Answer;
+pub use block::Block;
 pub use settings::Settings;
 pub use want::{EndWhy, Want};

@@ -42,6 +42,11 @@ may_make is_free (want.Exit told) = false
 may_make is_free want.Reserve = is_free
 may_make is_free _ = true
 
+-- the read of a block of the log
+abbrev pub reads_block : Want → Bool
+reads_block (want.LogRead b) = true
+reads_block _ = false
+
 -- a signal
 abbrev pub is_signal : Want → Bool
 is_signal (want.Signal1 signal) = true

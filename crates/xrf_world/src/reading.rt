@@ -1,6 +1,6 @@
 //! What an act is answered, read off the data sets.
 
-ghost use Rattle.std.specs.Prelude.{◌≡◌, ◌+◌, ◌*◌, ◌≤◌, List, Some, slice_get};
+ghost use Rattle.std.specs.Prelude.{◌≡◌, ◌+◌, ◌*◌, ◌≤◌, false, List, Some, slice_get};
 ghost use Rattle.xrf_devices.specs.Standing.{StandsFor};
 ghost use Rattle.xrf_history.specs.declared.answer.Answer.{Answer as An};
 ghost use Rattle.xrf_history.specs.Events.{Event};
@@ -11,12 +11,13 @@ ghost use Rattle.xrf_trace.specs.Jobs.{hist, known_of};
 ghost use Rattle.xrf_trace.specs.Scenario.{Scen, other};
 ghost use Rattle.xrf_world.specs.Making.{MayRead};
 ghost use Rattle.xrf_world.specs.Standing.{MiddleIs, StandsAt};
+ghost use Rattle.xrf_world.specs.Wants.{reads_block};
 
 use crate::middle::Middle;
 use crate::place::Place;
 use xrf_base::{Item, Site, Tick};
 use xrf_devices::DataSets;
-use xrf_history::{Answer, Want};
+use xrf_history::{Answer, Block, Want};
 
 fn other(site: Site) -> Site
     ensures { result ≡ other site }
@@ -27,7 +28,7 @@ fn other(site: Site) -> Site
     }
 }
 
-fn item_handed(at: Tick, item: Option<Item>) -> Answer
+fn item_handed<'a>(at: Tick, item: Option<Item>) -> Answer<'a>
     ensures { result ≡ item_handed at item }
 {
     match item {
@@ -42,23 +43,29 @@ fn item_at(items: &[Item], place: usize) -> Option<Item>
     items.get(place).copied()
 }
 
-// the first block of a restart is handed with both keypoint slots
-fn block_answer(data_sets: &DataSets, block: u32, has_read: bool) -> Answer
+/// What a job is answered for the read of a block of the log, of which a copy is made here. The first block of a restart
+/// is handed with both keypoint slots.
+pub(crate) fn block_answer<'a>(
+    data_sets: &DataSets,
+    block: u32,
+    has_read: bool,
+    bytes: &'a mut [u8; 4096],
+) -> Answer<'a>
     requires { (s : Scen) × (t : List Made) × StandsFor data_sets.now s t × (64 * block + 64 ≤ s.settings.log) }
     ensures { (s : Scen) (t : List Made) → StandsFor data_sets.now s t → result ≡ block_answer s t block has_read }
 {
-    let mut bytes = [0; 4096];
-    data_sets.log_block(block, &mut bytes);
+    data_sets.log_block(block, bytes);
+    let block = Block::new(bytes);
     if has_read {
-        Answer::LogBlock(bytes)
+        Answer::LogBlock(block)
     } else {
-        Answer::Anchored(bytes, data_sets.key_slots())
+        Answer::Anchored(block, data_sets.key_slots())
     }
 }
 
 impl Middle {
     // the control record, and what of it is confirmed
-    fn control_answer(&self) -> Answer
+    fn control_answer<'a>(&self) -> Answer<'a>
         requires { (t : List Made) × MiddleIs self.now t }
         ensures { (t : List Made) → MiddleIs self.now t → result ≡ An.Ctl (control t) (known_of t (control t)) }
     {
@@ -67,9 +74,10 @@ impl Middle {
         Answer::Ctl(held, known)
     }
 
-    /// What the job at a site is answered for an act that it wants.
-    pub(crate) fn answer(&self, place: &Place, site: Site, want: &Want) -> Answer
-        requires { (t : List Made) × (h : List Event) × StandsAt self.now place.now t site × (hist self.now.scenario t site ≡ Some h) × MayRead self.now.scenario want.now }
+    /// What the job at a site is answered for an act that it wants, which reads no block of the log.
+    pub(crate) fn answer<'a>(&self, place: &Place, site: Site, want: &Want) -> Answer<'a>
+        requires small { reads_block want.now ≡ false }
+        requires stands { (t : List Made) × (h : List Event) × StandsAt self.now place.now t site × (hist self.now.scenario t site ≡ Some h) × MayRead self.now.scenario want.now }
         ensures { (t : List Made) (h : List Event) → StandsAt self.now place.now t site → hist self.now.scenario t site ≡ Some h
             → result ≡ answer_of self.now.scenario t site h want.now }
     {
@@ -81,7 +89,6 @@ impl Middle {
             Want::Look2 => Answer::Look2(data_sets.signal2(other(site)), at),
             Want::Decide => Answer::Decide(self.counts.known(&place.seat.seen), at),
             Want::MsgRead(k) => Answer::MsgSlot(data_sets.message_slot(k)),
-            Want::LogRead(block) => block_answer(data_sets, block, place.seat.has_read),
             Want::LogLook(number) => Answer::Gate(data_sets.log_gate(&self.scenario, number)),
             Want::KpRead(k) => Answer::Gate(data_sets.key_gate(k)),
             Want::FileRead(k) => Answer::FileSlot(data_sets.file_slot(&self.scenario, k)),

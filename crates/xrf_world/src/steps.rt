@@ -1,6 +1,7 @@
 //! STEP, LOSE and FAIL: a job makes its next act, in full, with a signal that is lost, or with a device that fails.
 
 ghost use Rattle.std.specs.Prelude.{◌≡◌, List, Ok};
+ghost use Rattle.xrf_history.specs.declared.want.Want.TheVariants as wants;
 ghost use Rattle.xrf_setup.specs.declared.choice.Choice.{Choice};
 ghost use Rattle.xrf_setup.specs.declared.choice.Choice.TheVariants as choice;
 ghost use Rattle.xrf_trace.specs.declared.entry.Entry.{Entry as Made};
@@ -12,6 +13,7 @@ ghost use Rattle.xrf_world.specs.Wants.{wanted};
 use crate::making::make_act;
 use crate::middle::Middle;
 use crate::place::Place;
+use crate::reading::block_answer;
 use crate::refused::fail_refused;
 use crate::wants::{is_signal, may_make, while_left};
 use xrf_base::Site;
@@ -28,14 +30,36 @@ pub(crate) fn wanted(middle: &Middle, place: &Place, site: Site) -> Want
     while_left(place.seat.want(), taken < middle.scenario.work(site).len())
 }
 
+// a block of the log is read
+fn make_block_read(
+    middle: &mut Middle,
+    place: &mut Place,
+    site: Site,
+    block: u32,
+    land: Land,
+) -> Entry
+    requires { (t : List Made) × (c : Choice) × StandsAt middle.old place.old t site × IsMade middle.old.scenario t site (wants.LogRead block) land c }
+    ensures { (t : List Made) (c : Choice) → StandsAt middle.old place.old t site → IsMade middle.old.scenario t site (wants.LogRead block) land c
+        → MakesAt middle.old place.old t site c (Ok result) middle.new place.new }
+{
+    let mut bytes = [0; 4096];
+    let answer = block_answer(&middle.data_sets, block, place.seat.has_read, &mut bytes);
+    make_act(middle, place, site, &Want::LogRead(block), land, &answer)
+}
+
 // the next act, in full or as a signal that is lost
 fn make_next(middle: &mut Middle, place: &mut Place, site: Site, want: &Want, land: Land) -> Entry
     requires { (t : List Made) × (c : Choice) × StandsAt middle.old place.old t site × IsMade middle.old.scenario t site want.now land c }
     ensures { (t : List Made) (c : Choice) → StandsAt middle.old place.old t site → IsMade middle.old.scenario t site want.now land c
         → MakesAt middle.old place.old t site c (Ok result) middle.new place.new }
 {
-    let answer = middle.answer(place, site, want);
-    make_act(middle, place, site, want, land, &answer)
+    match want {
+        Want::LogRead(block) => make_block_read(middle, place, site, *block, land),
+        _ => {
+            let answer = middle.answer(place, site, want);
+            make_act(middle, place, site, want, land, &answer)
+        }
+    }
 }
 
 /// STEP, the reserve being free or not.

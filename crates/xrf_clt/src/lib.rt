@@ -133,7 +133,7 @@ fn append_words(text: &mut Vec<u8>, line: &[u8]) -> Result<(), AllocError>
 fn joined(alloc: Global, line: &[u8]) -> Result<Vec<u8>, AllocError>
     ensures { IfOk result (λ text. text.items ≡ join_with_byte 32 (words line.now)) }
 {
-    let mut text = Vec::new(alloc);
+    let mut text = Vec::with_capacity(alloc, line.len())?;
     let Some((word, more)) = split_word(line) else {
         return Ok(text);
     };

@@ -52,18 +52,31 @@ both_printable (x ∷ xs) low high =
     let here : is_printable x ≡ true = inside x l.0 h.0 in
     rw here (both_printable xs l.1 h.1)
 
--- The first that passes stands behind those that do not.
-pub passed-over : (p : ℕ → Bool) (n : ℕ) (xs : List ℕ) → n ≤ length xs → list_all (λ x. not (p x)) (take n xs) ≡ true
-    → position_or_len p xs ≡ n + position_or_len p (drop n xs)
-passed-over p zero xs le h = omega arith
-passed-over p (suc n) [] le h = absurd (omega arith)
-passed-over p (suc n) (x ∷ xs) le h = by (p x) refl (λ k. passed-over p n xs (omega arith) k) h
+-- The first that passes stands behind a block that has none, ..
+pub passed-over : (p : ℕ → Bool) (n : ℕ) (xs : List ℕ) → n ≤ length xs → position_or_len p (take n xs) ≡ n → position_or_len p xs ≡ n + position_or_len p (drop n xs)
+passed-over p zero xs le whole = omega arith
+passed-over p (suc n) [] le whole = absurd (omega arith)
+passed-over p (suc n) (x ∷ xs) le whole = by (p x) refl (λ k. passed-over p n xs (omega arith) k)
   where
-    by : (b : Bool) → p x ≡ b → (list_all (λ x. not (p x)) (take n xs) ≡ true → position_or_len p xs ≡ n + position_or_len p (drop n xs)) → (not (p x) && list_all (λ x. not (p x)) (take n xs)) ≡ true → position_or_len p (x ∷ xs) ≡ suc n + position_or_len p (drop n xs)
-    by true e more k = let no : (not true && list_all (λ x. not (p x)) (take n xs)) ≡ true = subst (λ (b : Bool). (not b && list_all (λ x. not (p x)) (take n xs)) ≡ true) e k in absurd (cc)
-    by false e more k =
-        let rest = more (and_parts (not (p x)) (list_all (λ x. not (p x)) (take n xs)) k).1 in
+    by : (b : Bool) → p x ≡ b → (position_or_len p (take n xs) ≡ n → position_or_len p xs ≡ n + position_or_len p (drop n xs)) → position_or_len p (x ∷ xs) ≡ suc n + position_or_len p (drop n xs)
+    by true e more = let none : cond (not true) (1 + position_or_len p (take n xs)) 0 ≡ suc n = subst (λ (b : Bool). cond (not b) (1 + position_or_len p (take n xs)) 0 ≡ suc n) e whole in absurd (omega arith)
+    by false e more =
+        let one : cond (not false) (1 + position_or_len p (take n xs)) 0 ≡ suc n = subst (λ (b : Bool). cond (not b) (1 + position_or_len p (take n xs)) 0 ≡ suc n) e whole in
+        let rest = more (omega arith) in
         rw e (omega (arith, rest))
+
+-- .. and where it stands in a block that has one.
+pub stopped-in : (p : ℕ → Bool) (n : ℕ) (xs : List ℕ) → position_or_len p (take n xs) < n → n ≤ length xs → position_or_len p xs ≡ position_or_len p (take n xs)
+stopped-in p zero xs few le = absurd (omega arith)
+stopped-in p (suc n) [] few le = absurd (omega arith)
+stopped-in p (suc n) (x ∷ xs) few le = by (p x) refl (λ k. stopped-in p n xs k (omega arith))
+  where
+    by : (b : Bool) → p x ≡ b → (position_or_len p (take n xs) < n → position_or_len p xs ≡ position_or_len p (take n xs)) → position_or_len p (x ∷ xs) ≡ position_or_len p (x ∷ take n xs)
+    by true e more = rw e refl
+    by false e more =
+        let one : cond (not false) (1 + position_or_len p (take n xs)) 0 < suc n = subst (λ (b : Bool). cond (not b) (1 + position_or_len p (take n xs)) 0 < suc n) e few in
+        let rest = more (omega arith) in
+        rw e (rw rest refl)
 
 -- Blanks in front of a line are no words.
 pub blanks-over : (n : ℕ) (xs : List ℕ) → list_all is_blank (take n xs) ≡ true → words (drop n xs) ≡ words xs

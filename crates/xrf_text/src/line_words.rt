@@ -29,6 +29,7 @@ impl<'a> Model for LineWords<'a> {
 
 impl<'a> LineWords<'a> {
     /// The words of a line; none where there are more than 16.
+    #[inline]
     pub fn split(line: &'a [u8]) -> Option<LineWords<'a>>
         ensures { IfSome result (λ found. found ≡ words line.now) }
     {

@@ -1,7 +1,7 @@
 //! Searches that pass over 32 bytes at once.
 
 ghost use Rattle.std.specs.Prelude.{◌≡◌, ◌≤◌, ◌≢◌, ◌+◌, ◌∷◌, ℕ, List, true, not, nat_lt, IsTrue, length, take, drop};
-ghost use Rattle.std.specs.List.{list_all, position};
+ghost use Rattle.std.specs.List.{list_all, position, position_or_len};
 ghost use Rattle.xrf_text.specs.Text.{words, is_blank, is_line_feed, is_printable};
 
 use std::simd::prelude::*;
@@ -9,11 +9,18 @@ use std::simd::prelude::*;
 /// How many bytes a block has.
 const BLOCK: usize = 32;
 
-/// Whether no byte of a block is a line feed.
-fn has_no_line_feed(block: u8x32) -> bool
-    ensures { IsTrue result → list_all (λ b. not (is_line_feed b)) block ≡ true }
+/// How many bytes of a block stand before its first line feed: all 32 where it has none.
+#[inline]
+fn before_line_feed(block: u8x32) -> usize
+    ensures place { result ≡ position_or_len is_line_feed block }
+    ensures inside { result ≤ 32 }
 {
-    block.simd_eq(u8x32::splat(b'\n')).to_bitmask() == 0
+    let feeds = block.simd_eq(u8x32::splat(b'\n')).to_bitmask();
+    if feeds == 0 {
+        BLOCK
+    } else {
+        feeds.trailing_zeros() as usize
+    }
 }
 
 /// Whether all bytes of a block are blanks.
@@ -70,8 +77,12 @@ pub fn first_line_feed(text: &[u8]) -> Option<usize>
     ensures { result ≡ position is_line_feed text.now }
 {
     let mut passed = 0;
-    while text.len() - passed >= BLOCK && has_no_line_feed(block_at(text, passed)) {
-        passed += BLOCK;
+    while text.len() - passed >= BLOCK {
+        let before = before_line_feed(block_at(text, passed));
+        passed += before;
+        if before < BLOCK {
+            return Some(passed);
+        }
     }
     while passed < text.len() {
         if text[passed] == b'\n' {

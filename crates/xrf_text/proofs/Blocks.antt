@@ -1,10 +1,10 @@
 -- Bytes that a search passes over.
-use Rattle.std.proofs.Common.{◌≡◌, ◌≤◌, ◌<◌, ◌+◌, ◌*◌, ℕ, zero, suc, Bool, true, false, not, cond, ◌&&◌, ◌%◌, ◌^◌, List, [], ◌∷◌, Some, None, length, take, drop, map, replicate, nat_lt, nat_le, refl, ap, ◌∙◌, subst, arith, w8}
+use Rattle.std.proofs.Common.{◌≡◌, ◌≤◌, ◌<◌, ◌+◌, ◌*◌, ℕ, zero, suc, Bool, true, false, not, cond, ◌&&◌, ◌%◌, ◌^◌, List, [], ◌∷◌, Some, None, length, take, drop, map, replicate, nat_lt, Fits, refl, sym, ap, ap₂, ◌∙◌, subst, arith, w8}
 use Rattle.std.specs.List.{list_all, position, position_or_len}
-use Rattle.std.specs.Simd.Lanes.{mask_l, top, zip2}
-use Rattle.std.proofs.lemmas.Simd.{tops_compared, zip2_splat_left, mask_l-mod}
+use Rattle.std.specs.Simd.Lanes.{mask_l, top, zip2, Each1}
+use Rattle.std.proofs.lemmas.Simd.{tops_compared, zip2_splat_left, mask_l-mod, map-map}
 use Rattle.std.proofs.lemmas.List.{length-map}
-use Rattle.std.proofs.lemmas.Bool.{and_parts, le-leb}
+use Rattle.std.proofs.lemmas.Bool.{and_parts, agree_below, agree_below_at}
 use Rattle.std.proofs.lemmas.Bool.Decides.{nat_tests}
 use Rattle.xrf_text.specs.Text.{words, is_blank, is_printable}
 
@@ -27,30 +27,24 @@ none-other p (x ∷ xs) h = by (p x) refl (λ k. none-other p xs k)
     by true e rest = let none : 0 + 2 * mask_l (map (λ x. not (p x)) xs) ≡ 0 = subst (λ (b : Bool). cond (not b) 1 0 + 2 * mask_l (map (λ x. not (p x)) xs) ≡ 0) e h in rw e (rest (omega arith))
 
 -- The bits of the comparison of one number with each lane.
-pub bitmask-left : (t : ℕ → ℕ → Bool) (y : ℕ) (xs : List ℕ) → length xs ≡ 32
-    → mask_l (map (top 7) (zip2 (λ a b. cond (t a b) 255 0) (replicate 32 y) xs)) % 2 ^ 64 ≡ mask_l (map (t y) xs)
-bitmask-left t y xs long =
-    ap (λ ms. mask_l ms % 2 ^ 64) (tops_compared w8 t (replicate 32 y) xs ∙ zip2_splat_left t y 32 xs long) ∙ mask_l-mod (map (t y) xs) 64 (omega (arith, length-map xs (t y)))
+bitmask-left : (t : ℕ → ℕ → Bool) (y n : ℕ) (xs : List ℕ) → length xs ≡ n → n ≤ 64
+    → mask_l (map (top 7) (zip2 (λ a b. cond (t a b) 255 0) (replicate n y) xs)) % 2 ^ 64 ≡ mask_l (map (t y) xs)
+bitmask-left t y n xs long few =
+    ap (λ ms. mask_l ms % 2 ^ 64) (tops_compared w8 t (replicate n y) xs ∙ zip2_splat_left t y n xs long)
+    ∙ mask_l-mod (map (t y) xs) 64 (omega (arith, length-map xs (t y), long, few))
 
-inside : (x : ℕ) → not (nat_lt x 32) ≡ true → not (nat_lt 126 x) ≡ true → (nat_le 32 x && nat_le x 126) ≡ true
-inside x low high = by (nat_lt x 32) refl (nat_lt 126 x) refl
-  where
-    by : (a : Bool) → nat_lt x 32 ≡ a → (b : Bool) → nat_lt 126 x ≡ b → (nat_le 32 x && nat_le x 126) ≡ true
-    by true e b f = absurd (cc)
-    by false e true f = absurd (cc)
-    by false e false f =
-        let least : nat_le 32 x ≡ true = le-leb 32 x (grind (arith, nat_tests)) in
-        let most : nat_le x 126 ≡ true = le-leb x 126 (grind (arith, nat_tests)) in
-        rw least (rw most refl)
+-- Two tests that agree at each byte agree on bytes.
+agreeing : (p q : ℕ → Bool) → agree_below p q 256 ≡ true → (xs : List ℕ) → Each1 (Fits w8) xs → list_all p xs ≡ list_all q xs
+agreeing p q all [] fits = refl
+agreeing p q all (x ∷ xs) fits = ap₂ (λ a b. a && b) (agree_below_at p q 256 x all fits.0.fits) (agreeing p q all xs fits.1)
 
--- Bytes of which none is too low and none too high are printable.
-pub both_printable : (xs : List ℕ) → list_all (λ b. not (nat_lt b 32)) xs ≡ true → list_all (λ b. not (nat_lt 126 b)) xs ≡ true → list_all is_printable xs ≡ true
-both_printable [] low high = refl
-both_printable (x ∷ xs) low high =
-    let l = and_parts (not (nat_lt x 32)) (list_all (λ b. not (nat_lt b 32)) xs) low in
-    let h = and_parts (not (nat_lt 126 x)) (list_all (λ b. not (nat_lt 126 b)) xs) high in
-    let here : is_printable x ≡ true = inside x l.0 h.0 in
-    rw here (both_printable xs l.1 h.1)
+-- Bytes that, each taken from some byte on, are all at most 94 are printable, where that is so of each byte.
+pub printable_lanes : (less : ℕ → ℕ) → agree_below (λ x. not (nat_lt 94 (less x))) is_printable 256 ≡ true → (n : ℕ) (xs ys : List ℕ) → n ≤ 64 → length xs ≡ n → Each1 (Fits w8) xs
+    → ys ≡ map less xs → mask_l (map (top 7) (zip2 (λ a b. cond (nat_lt a b) 255 0) (replicate n 94) ys)) % 2 ^ 64 ≡ 0 → list_all is_printable xs ≡ true
+printable_lanes less all n xs ys few long fits taken none =
+    let long_too : length ys ≡ n = ap length taken ∙ length-map xs less ∙ long in
+    let bits : mask_l (map (λ x. nat_lt 94 (less x)) xs) ≡ 0 = sym (ap mask_l (ap (map (nat_lt 94)) taken ∙ map-map (nat_lt 94) less xs)) ∙ sym (bitmask-left nat_lt 94 n ys long_too few) ∙ none in
+    sym (agreeing (λ x. not (nat_lt 94 (less x))) is_printable all xs fits) ∙ none-set (λ x. nat_lt 94 (less x)) xs bits
 
 -- The first that passes stands behind a block that has none, ..
 pub passed-over : (p : ℕ → Bool) (n : ℕ) (xs : List ℕ) → n ≤ length xs → position_or_len p (take n xs) ≡ n → position_or_len p xs ≡ n + position_or_len p (drop n xs)

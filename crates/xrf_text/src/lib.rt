@@ -5,19 +5,12 @@ mod line_words;
 mod scan;
 
 ghost use Rattle.std.specs.Prelude.{◌≡◌, ◌≤◌, ◌<◌, [], ◌∷◌, ◌≢◌, ℕ, List, length, MatchOption, IfSome};
-ghost use Rattle.std.specs.List.{position, join_with_byte, AllByRecursion};
-ghost use Rattle.xrf_text.specs.Text.{is_blank, is_line_feed, lines, words, IsWord};
+ghost use Rattle.std.specs.List.{join_with_byte, AllByRecursion};
+ghost use Rattle.xrf_text.specs.Text.{lines, words, IsWord};
 
 pub use line_words::LineWords;
-use scan::from_first_word;
+use scan::{first_blank, from_first_word};
 pub use scan::{first_line_feed, is_printable};
-
-/// Where the first blank stands.
-fn first_blank(line: &[u8]) -> Option<usize>
-    ensures { result ≡ position is_blank line.now }
-{
-    line.iter().position(|b| *b == b' ')
-}
 
 /// The first word of a line and what follows it, or none where the line has no word.
 pub fn split_word(line: &[u8]) -> Option<(&[u8], &[u8])>

@@ -1,6 +1,7 @@
 //! Searches that pass over 32 bytes at once.
 
-ghost use Rattle.std.specs.Prelude.{◌≡◌, ◌≤◌, ◌≢◌, ◌+◌, ◌∷◌, ℕ, List, true, not, nat_lt, IsTrue, length, take, drop};
+ghost use Rattle.std.specs.Prelude.{if◌then◌else◌, ◌==◌, ◌≡◌, ◌≤◌, ◌≢◌, ◌+◌, ◌∷◌, ℕ, List, true, not, nat_lt, IsTrue, length, take, drop};
+ghost use Rattle.std.specs.Int.{w64, trailing_zeros};
 ghost use Rattle.std.specs.List.{list_all, position, position_or_len};
 ghost use Rattle.xrf_text.specs.Text.{words, is_blank, is_line_feed, is_printable};
 
@@ -9,18 +10,37 @@ use std::simd::prelude::*;
 /// How many bytes a block has.
 const BLOCK: usize = 32;
 
+/// How many bytes a short block has.
+const SHORT: usize = 8;
+
+/// The place of the lowest bit that is set, or the count of lanes where none is.
+#[inline]
+fn first_set(bits: u64, lanes: usize) -> usize
+    ensures { result ≡ if bits == 0 then lanes else trailing_zeros w64 bits }
+{
+    if bits == 0 {
+        lanes
+    } else {
+        bits.trailing_zeros() as usize
+    }
+}
+
 /// How many bytes of a block stand before its first line feed: all 32 where it has none.
 #[inline]
 fn before_line_feed(block: u8x32) -> usize
     ensures place { result ≡ position_or_len is_line_feed block }
     ensures inside { result ≤ 32 }
 {
-    let feeds = block.simd_eq(u8x32::splat(b'\n')).to_bitmask();
-    if feeds == 0 {
-        BLOCK
-    } else {
-        feeds.trailing_zeros() as usize
-    }
+    first_set(block.simd_eq(u8x32::splat(b'\n')).to_bitmask(), BLOCK)
+}
+
+/// How many bytes of a short block stand before its first blank: all 8 where it has none.
+#[inline]
+fn before_blank(block: u8x8) -> usize
+    ensures place { result ≡ position_or_len is_blank block }
+    ensures inside { result ≤ 8 }
+{
+    first_set(block.simd_eq(u8x8::splat(b' ')).to_bitmask(), SHORT)
 }
 
 /// Whether all bytes of a block are blanks.
@@ -30,29 +50,20 @@ fn is_all_blank(block: u8x32) -> bool
     block.simd_ne(u8x32::splat(b' ')).to_bitmask() == 0
 }
 
-/// Whether no byte of a block stands before the blank.
-fn has_none_below(block: u8x32) -> bool
-    ensures { IsTrue result → list_all (λ b. not (nat_lt b 32)) block ≡ true }
-{
-    block.simd_lt(u8x32::splat(b' ')).to_bitmask() == 0
-}
-
-/// Whether no byte of a block stands after `~`.
-fn has_none_above(block: u8x32) -> bool
-    ensures { IsTrue result → list_all (λ b. not (nat_lt 126 b)) block ≡ true }
-{
-    block.simd_gt(u8x32::splat(b'~')).to_bitmask() == 0
-}
-
-/// Whether all bytes of a block are printable.
-#[tactic(auto, using(crate::proofs::Blocks::both_printable))]
+/// Whether all bytes of a block are printable: taken from the blank on, one before it wraps past `~`.
 fn is_all_printable(block: u8x32) -> bool
     ensures { IsTrue result → list_all is_printable block ≡ true }
 {
-    if !has_none_below(block) {
-        return false;
-    }
-    has_none_above(block)
+    let from_blank = block - u8x32::splat(b' ');
+    from_blank.simd_gt(u8x32::splat(b'~' - b' ')).to_bitmask() == 0
+}
+
+/// Whether all bytes of a short block are printable.
+fn is_short_printable(block: u8x8) -> bool
+    ensures { IsTrue result → list_all is_printable block ≡ true }
+{
+    let from_blank = block - u8x8::splat(b' ');
+    from_blank.simd_gt(u8x8::splat(b'~' - b' ')).to_bitmask() == 0
 }
 
 /// The 32 bytes from a place on.
@@ -63,6 +74,14 @@ fn block_at(text: &[u8], at: usize) -> u8x32
     u8x32::from_slice(&text[at..])
 }
 
+/// The 8 bytes from a place on.
+fn short_block_at(text: &[u8], at: usize) -> u8x8
+    requires { at + 8 ≤ length text.now }
+    ensures { result ≡ take 8 (drop at text.now) }
+{
+    u8x8::from_slice(&text[at..])
+}
+
 /// What stands behind the first 32 bytes.
 fn behind_block(text: &[u8]) -> &[u8]
     requires { 32 ≤ length text.now }
@@ -70,6 +89,15 @@ fn behind_block(text: &[u8]) -> &[u8]
     ensures shorter { length result.now + 32 ≡ length text.now }
 {
     &text[BLOCK..]
+}
+
+/// What stands behind the first 8 bytes.
+fn behind_short_block(text: &[u8]) -> &[u8]
+    requires { 8 ≤ length text.now }
+    ensures behind { result.now ≡ drop 8 text.now }
+    ensures shorter { length result.now + 8 ≡ length text.now }
+{
+    &text[SHORT..]
 }
 
 /// Where the first line feed stands.
@@ -86,6 +114,27 @@ pub fn first_line_feed(text: &[u8]) -> Option<usize>
     }
     while passed < text.len() {
         if text[passed] == b'\n' {
+            return Some(passed);
+        }
+        passed += 1;
+    }
+    None
+}
+
+/// Where the first blank stands.
+pub(crate) fn first_blank(line: &[u8]) -> Option<usize>
+    ensures { result ≡ position is_blank line.now }
+{
+    let mut passed = 0;
+    while line.len() - passed >= SHORT {
+        let before = before_blank(short_block_at(line, passed));
+        passed += before;
+        if before < SHORT {
+            return Some(passed);
+        }
+    }
+    while passed < line.len() {
+        if line[passed] == b' ' {
             return Some(passed);
         }
         passed += 1;
@@ -122,6 +171,9 @@ pub fn is_printable(line: &[u8]) -> bool
     let mut rest = line;
     while rest.len() >= BLOCK && is_all_printable(block_at(rest, 0)) {
         rest = behind_block(rest);
+    }
+    while rest.len() >= SHORT && is_short_printable(short_block_at(rest, 0)) {
+        rest = behind_short_block(rest);
     }
     are_printable(rest)
 }

@@ -8,3 +8,9 @@ invariant-loop-rest l = list_all is_printable l.rest ≡ list_all is_printable l
 
 abbrev pub decreases-loop-rest : goal.decreases-loop-rest
 decreases-loop-rest l = length l.rest
+
+abbrev pub invariant-loop-rest-2 : goal.invariant-loop-rest-2
+invariant-loop-rest-2 l = list_all is_printable l.rest ≡ list_all is_printable l.line
+
+abbrev pub decreases-loop-rest-2 : goal.decreases-loop-rest-2
+decreases-loop-rest-2 l = length l.rest

@@ -9,6 +9,7 @@ use Rattle.xrf_logrec.proofs.LogLaws.{same_unit-true}
 use Rattle.xrf_log.specs.declared.taken.Row.{Row}
 use Rattle.xrf_log_law.specs.BeforeImages.{covers, undo_at, has_put, other_has_put, AreLocked, IsUndone}
 use Rattle.xrf_log_law.proofs.Tests.{eq-of-true, false-if, no-clash}
+use Rattle.xrf_trace.proofs.PromiseLaws.{same_unit-refl}
 
 -- where a row is of the record, what stood there does not matter
 pub covered-same : (r : ℕ) (rows : List Undo) (x y : List ℕ) → covers r rows ≡ true → undo_at r rows x ≡ undo_at r rows y
@@ -92,10 +93,6 @@ without-locked unit rows locked u r put =
 -- a put joins, of a record that no other open unit has put
 abbrev pub put_row : UnitId → ℕ → List ℕ → Row
 put_row u r b = record { unit = u; undo = record { rrn = r; before = b } }
-
--- a unit is itself
-pub same_unit-refl : (u : UnitId) → same_unit u u ≡ true
-same_unit-refl u = grind (arith, common_steps)
 
 -- of a unit that has put, another one finds it as another
 pub put-found : (u v : UnitId) (r : ℕ) (rows : List Row) → same_unit u v ≡ false → has_put u r rows ≡ true → other_has_put v r rows ≡ true

@@ -24,12 +24,12 @@ use Rattle.xrf_log_law.specs.LogSlots.{AtEnd}
 use Rattle.xrf_log_law.specs.Due.{Due, JobView, RestartDue, Undoes, job_view, KeyDue, restart_view}
 use Rattle.xrf_log_law.specs.State.{RecordDue, State, View, log_part, booked}
 use Rattle.xrf_log_law.proofs.Tests.{choose, no-clash}
-use Rattle.xrf_log_law.proofs.BeforeImageLaws.{same_unit-refl}
 use Rattle.xrf_log_law.specs.BeforeImages.{undo_at, covers}
 use Rattle.xrf_log_law.specs.Jobs.{is_idle, Idle}
 use Rattle.xrf_log_law.specs.Soundness.{is_sound}
 use Rattle.xrf_log_law.proofs.Boundaries.{boundary-data}
 use Rattle.xrf_history.specs.declared.want.Want.TheVariants as want
+use Rattle.xrf_trace.proofs.PromiseLaws.{same_unit-refl}
 
 -- a record that is written at the end of the log
 pub log_write-due : (p : Settings) (first : ℕ → Option (List ℕ)) (v : View) (j : JobView) (place : ℕ) (rec : LogRec) → State p.limits.log first v

@@ -43,7 +43,7 @@ use Rattle.xrf_log_law.specs.State.{View, RecordDue, log_part, after, State, boo
 use Rattle.xrf_log_law.proofs.Tests.{choose, at_own, no-clash}
 use Rattle.xrf_log_law.specs.LogSlots.{AtEnd}
 use Rattle.xrf_log_law.specs.BeforeImages.{has_put, covers, undo_at}
-use Rattle.xrf_log_law.proofs.BeforeImageLaws.{same_unit-refl, left-at}
+use Rattle.xrf_log_law.proofs.BeforeImageLaws.{left-at}
 use Rattle.xrf_log_law.proofs.DueAtBoundary.{log_write-due}
 use Rattle.xrf_log_law.proofs.StateWrites.{has_put-covers, undo-state}
 use Rattle.xrf_log_law.specs.Soundness.{is_sound}
@@ -52,6 +52,7 @@ use Rattle.xrf_file.specs.declared.answers.Plan.TheVariants as plans
 use Rattle.xrf_history.specs.declared.want.Want.TheVariants as want
 use Rattle.xrf_trace.specs.declared.entry.Act.TheVariants as act
 use Rattle.xrf_trace.specs.declared.entry.Land.TheVariants as land
+use Rattle.xrf_trace.proofs.PromiseLaws.{same_unit-refl}
 
 -- sequences of other acts
 write-due : (size : ℕ) (first : ℕ → Option (List ℕ)) (v : View) (j : JobView) (o : Option ControlRecord) → Due size first v j (write_next o)

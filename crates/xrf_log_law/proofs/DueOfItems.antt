@@ -21,7 +21,6 @@ use Rattle.xrf_history.specs.Holding.{is_restarted}
 use Rattle.xrf_history.specs.Working.{keypoint_due, ledger, next_keypoint, rolled_left}
 use Rattle.xrf_history.specs.Restarting.{last_keypoint}
 use Rattle.xrf_log_law.specs.AtWork.{IsOpenUnit, Ledgers, open_numbered, Last}
-use Rattle.xrf_log_law.proofs.BeforeImageLaws.{same_unit-refl}
 use Rattle.xrf_log_law.specs.LogSlots.{AtEnd}
 use Rattle.xrf_log_law.specs.State.{State, View, log_part, AreOver}
 use Rattle.xrf_log_law.proofs.LedgerLaws.{hot-in_flight, flight-hot_with, locked-free, own-covers, own-rows, own-undone, least-le, oldest-over}
@@ -30,6 +29,7 @@ use Rattle.xrf_log_law.specs.BeforeImages.{covers, undo_at}
 use Rattle.xrf_log_law.proofs.Tests.{choose_if, and-right}
 use Rattle.xrf_base.specs.declared.items.Item.TheVariants as items
 use Rattle.xrf_file.specs.declared.answers.Plan.TheVariants as plans
+use Rattle.xrf_trace.proofs.PromiseLaws.{same_unit-refl}
 
 -- the unit of a name is open
 pub named-open : (name : List ℕ) (units : List OpenUnit) (unit : UnitId) → unit_named name units ≡ Some unit → IsOpenUnit unit units

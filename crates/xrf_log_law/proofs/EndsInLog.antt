@@ -8,7 +8,7 @@ use Rattle.xrf_logrec.specs.LogRecords.{same_unit}
 use Rattle.xrf_log.specs.Flight.{has_ended}
 use Rattle.xrf_log.specs.declared.taken.Row.{Row}
 use Rattle.xrf_trace.specs.Log.{committed, is_committed}
-use Rattle.xrf_log_law.proofs.BeforeImageLaws.{same_unit-refl}
+use Rattle.xrf_trace.proofs.PromiseLaws.{same_unit-refl}
 use Rattle.xrf_log_law.specs.BeforeImages.{covers, has_put, other_has_put}
 use Rattle.xrf_history.proofs.Tests.{or-right}
 use Rattle.xrf_log_law.proofs.Tests.{or-none, or-parts}

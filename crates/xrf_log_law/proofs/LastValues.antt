@@ -24,14 +24,15 @@ use Rattle.xrf_trace.specs.Log.{committed}
 use Rattle.xrf_log_law.specs.AtWork.{Last, RollLast, LastAt, LastIn, LastBut}
 use Rattle.xrf_log_law.specs.State.{View, State, value_at, RecordDue, after}
 use Rattle.xrf_log_law.proofs.Tests.{choose, false-if, no-clash}
-use Rattle.xrf_log_law.proofs.BeforeImageLaws.{put-found, without, same_unit-refl}
+use Rattle.xrf_log_law.proofs.BeforeImageLaws.{put-found, without}
 use Rattle.xrf_log_law.specs.BeforeImages.{has_put, other_has_put, value_by}
-use Rattle.xrf_log_law.proofs.RecordLaws.{commit-value, committed-ended}
+use Rattle.xrf_log_law.proofs.RecordLaws.{commit-value}
 use Rattle.xrf_log_law.proofs.StateWrites.{value_by-uncommitted}
 use Rattle.xrf_log_law.proofs.SameRecords.{same-backout, same-put}
 use Rattle.xrf_file.specs.declared.answers.Plan.TheVariants as plans
 use Rattle.xrf_trace.specs.declared.entry.Act.TheVariants as act
 use Rattle.xrf_trace.specs.declared.entry.Land.TheVariants as land
+use Rattle.xrf_trace.proofs.PromiseLaws.{committed-ended, same_unit-refl}
 
 -- all the last values, and those but of a unit that rolls
 pub last-roll : (first : ℕ → Option (List ℕ)) (v : View) (plan : Plan) → Last first v → RollLast first v plan

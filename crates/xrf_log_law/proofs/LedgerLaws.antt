@@ -16,9 +16,9 @@ use Rattle.xrf_file.specs.Rows.{is_locked, undo_of, is_hot, hot_with}
 use Rattle.xrf_file.specs.declared.rows.OpenUnit.{OpenUnit}
 use Rattle.xrf_file.specs.Ledger.{least_number}
 use Rattle.xrf_trace.specs.Items.{numbered}
+use Rattle.xrf_trace.proofs.PromiseLaws.{same_unit-refl}
 use Rattle.xrf_log_law.specs.AtWork.{open_numbered, IsOpenUnit}
 use Rattle.xrf_log_law.specs.BeforeImages.{other_has_put, undo_at, covers, has_put}
-use Rattle.xrf_log_law.proofs.BeforeImageLaws.{same_unit-refl}
 use Rattle.xrf_log_law.proofs.NewestParts.{found-passing}
 use Rattle.xrf_log_law.specs.LogSlots.{nth_old}
 use Rattle.xrf_log_law.specs.State.{AreOver}

@@ -16,8 +16,8 @@ use Rattle.xrf_file.specs.declared.rows.LoggedPut.{LoggedPut}
 use Rattle.xrf_file.specs.Rows.{is_hot, without_unit, without_puts, unit_named}
 use Rattle.xrf_file.specs.declared.rows.OpenUnit.{OpenUnit}
 use Rattle.xrf_trace.specs.Items.{numbered}
+use Rattle.xrf_trace.proofs.PromiseLaws.{same_unit-refl}
 use Rattle.xrf_log_law.specs.AtWork.{IsOpenUnit, Ledgers, open_numbered}
-use Rattle.xrf_log_law.proofs.BeforeImageLaws.{same_unit-refl}
 use Rattle.xrf_log_law.proofs.LedgerLaws.{hot-in_flight}
 use Rattle.xrf_history.proofs.Tests.{or-right}
 use Rattle.xrf_log_law.proofs.Tests.{false-if, no-clash, or-none}

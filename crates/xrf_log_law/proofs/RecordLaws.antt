@@ -12,6 +12,7 @@ use Rattle.xrf_log.specs.declared.taken.Row.{Row}
 use Rattle.xrf_log.proofs.FlightLaws.{open_puts-put, flight-commit, in_flight-not_ended, open_puts-commit, flight-backout, open_puts-backout}
 use Rattle.xrf_trace.specs.Log.{committed}
 use Rattle.xrf_trace.specs.Book.{value_after}
+use Rattle.xrf_trace.proofs.PromiseLaws.{committed-ended}
 use Rattle.xrf_log_law.specs.State.{AreOver, AreOrdered, View, RecordDue, value_at}
 use Rattle.xrf_log_law.proofs.SlotWrites.{push-other}
 use Rattle.xrf_log_law.specs.BeforeImages.{value_by, has_put, IsUndone}
@@ -45,31 +46,6 @@ fewer unit (u ∷ units) found = by (same_unit u unit) (fewer unit units) found
         → length (cond (not b) (u ∷ filter (λ u. not (same_unit u unit)) units) (filter (λ u. not (same_unit u unit)) units)) + 1 ≤ length (u ∷ units)
     by true rest found = omega (arith, few unit units)
     by false rest found = omega (arith, rest found)
-
--- a unit with a Commit has ended
-pub committed-ended : (unit : UnitId) (log : List LogRec) → list_any (same_unit unit) (committed log) ≡ true → has_ended unit log ≡ true
-committed-ended unit [] found = absurd (cc)
-committed-ended unit (Put u rrn before ∷ log) found = committed-ended unit log found
-committed-ended unit (Backout u ∷ log) found = or-right (same_unit unit u) (has_ended unit log) (committed-ended unit log found)
-committed-ended unit (Commit u ∷ log) found = by (list_any (same_unit u) (committed log)) (committed-ended unit log) found
-  where
-    last : (units : List UnitId) → list_any (same_unit unit) (units ++ u ∷ []) ≡ true → (same_unit unit u || list_any (same_unit unit) units) ≡ true
-    last [] found = found
-    last (v ∷ units) found = more (same_unit unit v) (last units) found
-      where
-        more : (b : Bool) → (list_any (same_unit unit) (units ++ u ∷ []) ≡ true → (same_unit unit u || list_any (same_unit unit) units) ≡ true)
-            → (b || list_any (same_unit unit) (units ++ u ∷ [])) ≡ true → (same_unit unit u || (b || list_any (same_unit unit) units)) ≡ true
-        more true rest found = or-right (same_unit unit u) true refl
-        more false rest found = rest found
-
-    either : (a b : Bool) → (a || b) ≡ true → (b ≡ true → has_ended unit log ≡ true) → (a || has_ended unit log) ≡ true
-    either true b e rest = refl
-    either false b e rest = rest e
-
-    by : (b : Bool) → (list_any (same_unit unit) (committed log) ≡ true → has_ended unit log ≡ true)
-        → list_any (same_unit unit) (if b then committed log else committed log ++ u ∷ []) ≡ true → (same_unit unit u || has_ended unit log) ≡ true
-    by true rest found = or-right (same_unit unit u) (has_ended unit log) (rest found)
-    by false rest found = either (same_unit unit u) (list_any (same_unit unit) (committed log)) (last (committed log) found) rest
 
 -- the last unit is the last to put
 value_by-last : (puts : UnitId → List (ℕ × List ℕ)) (r : ℕ) (units : List UnitId) (unit : UnitId) (before : Option (List ℕ))

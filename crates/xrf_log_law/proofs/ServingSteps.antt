@@ -18,10 +18,10 @@ use Rattle.xrf_log_law.specs.Serving.{Serving}
 use Rattle.xrf_log_law.proofs.Tests.{choose_if, no-clash}
 use Rattle.xrf_log_law.specs.AtWork.{IsOpenUnit}
 use Rattle.xrf_log_law.proofs.LedgerSteps.{open-left}
-use Rattle.xrf_log_law.proofs.BeforeImageLaws.{same_unit-refl}
 use Rattle.xrf_log_law.proofs.SameRecords.{same-backout, same-commit}
 use Rattle.xrf_base.specs.declared.items.Item.TheVariants as items
 use Rattle.xrf_file.specs.declared.answers.Plan.TheVariants as plans
+use Rattle.xrf_trace.proofs.PromiseLaws.{same_unit-refl}
 
 -- an item that is planned
 pub serving-planned : (l : Ledger) (item : Item) → Serving (Some item) (planned l item) (plan_of l item)

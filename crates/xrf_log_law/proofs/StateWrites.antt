@@ -22,12 +22,13 @@ use Rattle.xrf_log_law.proofs.SlotWrites.{gate_body, close-stands, body-stands, 
 use Rattle.xrf_log_law.specs.LogSlots.{LogStands, AtEnd}
 use Rattle.xrf_log_law.specs.State.{State, View, after, log_part, RecordDue, KeysStand, booked}
 use Rattle.xrf_log_law.proofs.Tests.{choose, eq-of-true, false-if, no-clash}
-use Rattle.xrf_log_law.proofs.RecordLaws.{Recorded, recorded, committed-ended}
+use Rattle.xrf_log_law.proofs.RecordLaws.{Recorded, recorded}
 use Rattle.xrf_log_law.proofs.KeyWrites.{close-keys, body-keys, open-keys}
 use Rattle.xrf_log_law.specs.Due.{KeyDue, open_rows}
 use Rattle.xrf_log_law.specs.BeforeImages.{covers, value_by, has_put}
 use Rattle.xrf_log_law.proofs.BeforeImageLaws.{write-undone}
 use Rattle.xrf_trace.specs.declared.entry.Act.TheVariants as act
+use Rattle.xrf_trace.proofs.PromiseLaws.{committed-ended}
 
 -- a slot has a body of 63 bytes
 abbrev IsWhole : Slot → Type 0

@@ -22,8 +22,8 @@ use Rattle.xrf_trace.specs.Log.{start, log}
 use Rattle.xrf_trace.specs.declared.entry.Entry.{Entry}
 use Rattle.xrf_trace.specs.Scenario.{Scen, settings}
 use Rattle.xrf_trace.specs.Jobs.{hist}
+use Rattle.xrf_trace.proofs.PromiseLaws.{same_unit-refl}
 use Rattle.xrf_log_law.specs.AtWork.{IsOpenUnit, Ledgers}
-use Rattle.xrf_log_law.proofs.BeforeImageLaws.{same_unit-refl}
 use Rattle.xrf_log_law.specs.Serving.{opened_of}
 use Rattle.xrf_history.proofs.Tests.{or-left, or-right}
 use Rattle.xrf_log_law.proofs.Tests.{no-clash, not-of-false}

@@ -97,9 +97,9 @@ committed-stay t (e ∷ later) =
     let here = entry-more e.act e.land (log (later ++ t)) in
     (before.0 ++ here.0, here.1 ∙ ap (λ (units : List UnitId). units ++ here.0) before.1 ∙ append-both (committed (log t)) before.0 here.0)
 
--- a unit that is committed has ended
-same-self : (unit : UnitId) → same_unit unit unit ≡ true
-same-self unit = grind (arith, common_steps)
+-- a unit is itself
+pub same_unit-refl : (unit : UnitId) → same_unit unit unit ≡ true
+same_unit-refl unit = grind (arith, common_steps)
 
 or-second : (a b : Bool) → b ≡ true → (a || b) ≡ true
 or-second true b is = refl
@@ -118,7 +118,8 @@ any-last unit u (v ∷ units) found = by (same_unit unit v) (any-last unit u uni
     by true rest found = or-second (same_unit unit u) true refl
     by false rest found = rest found
 
-committed-ended : (unit : UnitId) (records : List LogRec) → list_any (same_unit unit) (committed records) ≡ true → has_ended unit records ≡ true
+-- a unit that is committed has ended
+pub committed-ended : (unit : UnitId) (records : List LogRec) → list_any (same_unit unit) (committed records) ≡ true → has_ended unit records ≡ true
 committed-ended unit [] found = absurd (cc)
 committed-ended unit (Put u rrn before ∷ records) found = committed-ended unit records found
 committed-ended unit (Backout u ∷ records) found = or-second (same_unit unit u) (has_ended unit records) (committed-ended unit records found)
@@ -160,7 +161,7 @@ value-same : (f g : UnitId → List (ℕ × List ℕ)) (k : ℕ) (units : List U
     → ((u : UnitId) → list_any (same_unit u) units ≡ true → f u ≡ g u) → value_of_units f k units x ≡ value_of_units g k units x
 value-same f g k [] x same = refl
 value-same f g k (unit ∷ units) x same =
-    ap (λ (p : List (ℕ × List ℕ)). value_of_units f k units (value_after k p x)) (same unit (or-first (same_unit unit unit) _ (same-self unit)))
+    ap (λ (p : List (ℕ × List ℕ)). value_of_units f k units (value_after k p x)) (same unit (or-first (same_unit unit unit) _ (same_unit-refl unit)))
     ∙ value-same f g k units (value_after k (g unit) x) (λ u found. same u (or-second (same_unit u unit) _ found))
 
 -- so a later book is the book with the units that were committed since

@@ -1,22 +1,14 @@
 -- When a job may be handed an answer.
-use Rattle.std.specs.Prelude.{◌≡◌, ◌<◌, ◌≤◌, true, List, length}
+use Rattle.std.specs.Prelude.{◌≡◌, ◌<◌, true, List, length}
 use Rattle.xrf_log.specs.Scan.{anchor_of}
 use Rattle.xrf_history.specs.declared.answer.Answer.{Answer}
 use Rattle.xrf_history.specs.declared.answer.Answer.TheVariants as answer
 use Rattle.xrf_history.specs.Events.{Event}
-use Rattle.xrf_history.specs.Looking.{change}
-use Rattle.xrf_history.specs.Accepting.{may_take}
+use Rattle.xrf_history.specs.Accepting.{may_take, IsInTime}
 use Rattle.xrf_job.specs.declared.stage.Stage.{Stage}
 use Rattle.xrf_job.specs.declared.stage.Stage.TheVariants as stages
 use Rattle.xrf_active.specs.declared.active.Active.{Active}
 use Rattle.xrf_active.specs.Standing.{Stands}
-
--- its tick is not before that of the last change
-abbrev pub IsInTime : List Event → Answer → Type 0
-IsInTime h (answer.Look2 signal at) = change h ≤ at
-IsInTime h (answer.Decide known at) = change h ≤ at
-IsInTime h (answer.Exit said at) = change h ≤ at
-IsInTime h _ = Unit {0}
 
 -- a control record that is handed leaves an incarnation to give
 abbrev pub LeavesRoom : Answer → Type 0

@@ -1,5 +1,5 @@
 -- Which choices reach a job: ABEND, REPLY, CEBT and EXIT, by what the job is.
-use Rattle.std.specs.Prelude.{Bool, true, false, ◌&&◌, ◌||◌, not, is_none, List, Option, Some, None}
+use Rattle.std.specs.Prelude.{Bool, true, false, ◌&&◌, ◌||◌, ◌≤◌, not, is_none, List, Option, Some, None}
 use Rattle.xrf_exit.specs.declared.Notice.{Notice}
 use Rattle.xrf_exit.specs.declared.ExitAnswer.{ExitAnswer}
 use Rattle.xrf_exit.specs.Exit.{is_allowed}
@@ -7,6 +7,7 @@ use Rattle.xrf_history.specs.declared.settings.Settings.{Settings}
 use Rattle.xrf_history.specs.declared.answer.Answer.{Answer}
 use Rattle.xrf_history.specs.declared.answer.Answer.TheVariants as answer
 use Rattle.xrf_history.specs.Events.{Event}
+use Rattle.xrf_history.specs.Looking.{change}
 use Rattle.xrf_history.specs.Holding.{is_owner, is_alternate, is_tracking}
 use Rattle.xrf_history.specs.Reserving.{sign_off_due, is_leaving, is_starting}
 use Rattle.xrf_history.specs.Notices.{notice}
@@ -43,3 +44,12 @@ accepts p h _ = false
 -- a job takes an answer of its act, and one of a tick or of a choice that reaches it
 abbrev pub may_take : Settings → List Event → Answer → Bool
 may_take p h a = accepts p h a || fits p h (next p h) a
+
+-- its tick is not before that of the last change
+abbrev pub IsInTime : List Event → Answer → Type 0
+IsInTime h (answer.Look2 signal at) = change h ≤ at
+IsInTime h (answer.Decide known at) = change h ≤ at
+IsInTime h (answer.Exit said at) = change h ≤ at
+IsInTime h (answer.Reply go at) = change h ≤ at
+IsInTime h (answer.Cebt command at) = change h ≤ at
+IsInTime h _ = Unit {0}

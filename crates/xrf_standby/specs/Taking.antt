@@ -1,22 +1,12 @@
 -- When a job may be handed an answer.
-use Rattle.std.specs.Prelude.{◌≡◌, ◌<◌, ◌≤◌, true, false, List, length}
+use Rattle.std.specs.Prelude.{◌≡◌, ◌<◌, true, false, List, length}
 use Rattle.xrf_history.specs.declared.answer.Answer.{Answer}
-use Rattle.xrf_history.specs.declared.answer.Answer.TheVariants as answer
 use Rattle.xrf_history.specs.Events.{Event}
 use Rattle.xrf_history.specs.Holding.{is_owner}
-use Rattle.xrf_history.specs.Looking.{change}
-use Rattle.xrf_history.specs.Accepting.{may_take}
+use Rattle.xrf_history.specs.Accepting.{may_take, IsInTime}
 use Rattle.xrf_active.specs.Taking.{LeavesRoom}
 use Rattle.xrf_standby.specs.declared.standby.Standby.{Standby}
 use Rattle.xrf_standby.specs.Standing.{Stands}
-
--- its tick is not before that of the last change
-abbrev pub IsInTime : List Event → Answer → Type 0
-IsInTime h (answer.Look2 signal at) = change h ≤ at
-IsInTime h (answer.Decide known at) = change h ≤ at
-IsInTime h (answer.Reply go at) = change h ≤ at
-IsInTime h (answer.Cebt command at) = change h ≤ at
-IsInTime h _ = Unit {0}
 
 pub record CanTake (job : Standby) (h : List Event) (a : Answer) : Type 0 where
   pub stands : Stands job h

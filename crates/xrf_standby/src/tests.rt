@@ -3,11 +3,10 @@
 ghost use Rattle.std.specs.Prelude.{◌≡◌, ◌+◌, ◌≤◌, true, List, length, IfOk};
 ghost use Rattle.xrf_history.specs.Events.{Event};
 ghost use Rattle.xrf_history.specs.declared.settings.Settings.{Settings as Set};
-ghost use Rattle.xrf_history.specs.Accepting.{may_reply, may_command, may_take};
+ghost use Rattle.xrf_history.specs.Accepting.{IsInTime, may_reply, may_command, may_take};
 ghost use Rattle.xrf_history.specs.Answers.{is_plain, fits};
 ghost use Rattle.xrf_active.specs.Taking.{LeavesRoom};
 ghost use Rattle.xrf_standby.specs.Standing.{Stands};
-ghost use Rattle.xrf_standby.specs.Taking.{IsInTime};
 
 use crate::{Answer, EndWhy, Rooms, Settings, Standby, Want};
 use std::alloc::Global;

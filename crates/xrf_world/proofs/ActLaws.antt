@@ -16,7 +16,7 @@ use Rattle.xrf_history.specs.declared.answer.Answer.TheVariants as answer
 use Rattle.xrf_history.specs.declared.settings.Settings.{Settings}
 use Rattle.xrf_history.specs.declared.want.Want.{Want}
 use Rattle.xrf_history.specs.declared.want.Want.TheVariants as want
-use Rattle.xrf_history.specs.Accepting.{accepts, may_take}
+use Rattle.xrf_history.specs.Accepting.{IsInTime, accepts, may_take}
 use Rattle.xrf_history.specs.Answers.{event, event_by, fits, may_fail as wanted_may_fail}
 use Rattle.xrf_history.specs.Events.{ActFailed, Event}
 use Rattle.xrf_history.specs.Holding.{is_granted, number}
@@ -55,7 +55,7 @@ use Rattle.xrf_world.specs.Making.{MayMake, IsMade, IsFailed, MayRead, inc_of_wa
 use Rattle.xrf_world.specs.Standing.{Goes}
 use Rattle.xrf_world.specs.Wants as wants
 use Rattle.xrf_world.specs.Places.{CanTake, answer_given}
-use Rattle.xrf_world.specs.Seats.{IsInTime, MayBeHanded, after_want}
+use Rattle.xrf_world.specs.Seats.{MayBeHanded, after_want}
 use Rattle.xrf_world.specs.Wants.{while_left, is_item_left, wanted, wanted_by, may_make, act_of_want}
 use Rattle.xrf_world.proofs.FollowLaws.{of-item, of-act, slot-may, can-follow}
 use Rattle.xrf_world.proofs.TimeLaws.{IsBy, time-of}

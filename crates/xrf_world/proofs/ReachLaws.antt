@@ -13,7 +13,7 @@ use Rattle.xrf_setup.specs.declared.choice.Choice.{Choice}
 use Rattle.xrf_setup.specs.declared.choice.Choice.TheVariants as choice
 use Rattle.xrf_history.specs.declared.answer.Answer.{Answer}
 use Rattle.xrf_history.specs.declared.answer.Answer.TheVariants as answer
-use Rattle.xrf_history.specs.Accepting.{accepts, exit_allowed, may_abend, may_command, may_reply}
+use Rattle.xrf_history.specs.Accepting.{IsInTime, accepts, exit_allowed, may_abend, may_command, may_reply}
 use Rattle.xrf_history.specs.Answers.{event, fits}
 use Rattle.xrf_history.specs.Events.{Event, StartedActive, StartedStandby}
 use Rattle.xrf_history.specs.Holding.{number}
@@ -32,7 +32,7 @@ use Rattle.xrf_trace.specs.Runs.{outcome, outcome_of}
 use Rattle.xrf_trace.specs.Scenario.{Scen, settings}
 use Rattle.xrf_trace.specs.Words.{now, who_at}
 use Rattle.xrf_world.specs.Making.{IsReached, IsStarted}
-use Rattle.xrf_world.specs.Seats.{IsInTime, MayBeHanded}
+use Rattle.xrf_world.specs.Seats.{MayBeHanded}
 use Rattle.xrf_world.specs.Standing.{Goes}
 use Rattle.xrf_world.proofs.ActLaws.{own-hist, own-site, outcome-is, or-right}
 use Rattle.xrf_world.proofs.FollowLaws.{can-follow}

@@ -1,5 +1,5 @@
 -- How a seat stands for the job at its site, and when its job may be handed an answer.
-use Rattle.std.specs.Prelude.{◌≡◌, ◌≤◌, ◌<◌, Bool, true, false, List, ◌∷◌, length, Option, Some, None, IfSome}
+use Rattle.std.specs.Prelude.{◌≡◌, ◌<◌, Bool, true, false, List, ◌∷◌, length, Option, Some, None, IfSome}
 use Rattle.std.specs.Option.{option_map}
 use Rattle.xrf_ctl.specs.Control.{ControlRecord}
 use Rattle.xrf_history.specs.declared.answer.Answer.{Answer}
@@ -7,10 +7,10 @@ use Rattle.xrf_history.specs.declared.answer.Answer.TheVariants as answer
 use Rattle.xrf_history.specs.declared.settings.Settings.{Settings}
 use Rattle.xrf_history.specs.declared.want.Want.{Want}
 use Rattle.xrf_history.specs.declared.want.Want.TheVariants as want
-use Rattle.xrf_history.specs.Accepting.{may_take}
+use Rattle.xrf_history.specs.Accepting.{may_take, IsInTime}
 use Rattle.xrf_history.specs.Events.{Event, Ticked}
 use Rattle.xrf_history.specs.Holding.{is_owner}
-use Rattle.xrf_history.specs.Looking.{change, record_seen}
+use Rattle.xrf_history.specs.Looking.{record_seen}
 use Rattle.xrf_history.specs.Next.{next}
 use Rattle.xrf_history.specs.Restarting.{has_read_block}
 use Rattle.xrf_job.specs.Rooms.{AreFor}
@@ -42,15 +42,6 @@ pub record SeatIs (seat : Seat) (p : Settings) (there : Option (List Event)) : T
   pub job : JobIs seat.job p there
   pub seen : IfSome there (λ h. seat.seen ≡ record_seen h)
   pub has_read : IfSome there (λ h. seat.has_read ≡ has_read_block h)
-
--- its tick is not before that of the last change
-abbrev pub IsInTime : List Event → Answer → Type 0
-IsInTime h (answer.Look2 signal at) = change h ≤ at
-IsInTime h (answer.Decide known at) = change h ≤ at
-IsInTime h (answer.Exit said at) = change h ≤ at
-IsInTime h (answer.Reply go at) = change h ≤ at
-IsInTime h (answer.Cebt command at) = change h ≤ at
-IsInTime h _ = Unit {0}
 
 -- when the job with a history may be handed an answer
 pub record MayBeHanded (p : Settings) (h : List Event) (a : Answer) : Type 0 where

@@ -85,12 +85,26 @@ impl Job {
         }
     }
 
+    // whether it is an alternate that was let through
+    #[tactic(auto, using(xrf_active::proofs::Alternates::started_standby))]
+    fn is_through(&self) -> bool
+        ensures { (p : Set) (h : List Event) → WasHanded self.now p h → result ≡ false → JobIs self.now p (Some h) }
+    {
+        match self {
+            Job::Standby(job) => job.is_through(),
+            _ => false,
+        }
+    }
+
     // an alternate that was let through goes on as an owner
     #[tactic(auto, using(xrf_active::proofs::Alternates::started_standby))]
     fn promote(&mut self)
         requires { (p : Set) × (h : List Event) × WasHanded self.old p h }
         ensures { (p : Set) (h : List Event) → WasHanded self.old p h → JobIs self.new p (Some h) }
     {
+        if !self.is_through() {
+            return;
+        }
         *self = match replace(self, Job::Moving) {
             Job::Standby(job) => promoted(job),
             other => other,

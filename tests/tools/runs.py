@@ -6,7 +6,7 @@ from xrf_tools.document import Document, read
 
 ROOT = Path(__file__).resolve().parents[2]
 # Whole runs of a pair, a run that shows the bytes of the data sets, the rows of the program's own tests, and the examples.
-FOLDERS = [ROOT / name for name in ("tests/runs", "tests/documents", "tests/rows", "examples")]
+FOLDERS = [ROOT / name for name in ("tests/runs", "tests/documents", "tests/rows", "examples", "examples/tutorial")]
 TAKEOVER = "takeover_with_the_default_intervals"
 
 

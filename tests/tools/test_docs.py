@@ -93,7 +93,8 @@ class Commands(unittest.TestCase):
 
 class Links(unittest.TestCase):
     def test_files_that_pages_name_are_there(self) -> None:
-        for page in ("README.md", "docs/CONCEPTS.md", "docs/FORMATS.md", "CHANGELOG.md", "tools/editors/README.md"):
+        for page in ("README.md", "docs/CONCEPTS.md", "docs/TUTORIAL.md", "docs/SCENARIOS.md", "docs/REPORT.md", "docs/FORMATS.md",
+                     "examples/README.md", "CHANGELOG.md", "tools/editors/README.md"):
             text = (runs.ROOT / page).read_text()
             for name in re.findall(r"\]\(([^)]+)\)", text):
                 self.assertTrue((runs.ROOT / page).parent.joinpath(name).exists(), f"{page}: {name}")

@@ -31,7 +31,7 @@ LINES = {
 
 def stored() -> list[Path]:
     """Every scenario and document that may be read to its end."""
-    files = [path for folder in ("examples", "tests/rows", "tests/runs") for path in (runs.ROOT / folder).glob("*.*")]
+    files = [path for folder in ("examples", "examples/tutorial", "tests/rows", "tests/runs") for path in (runs.ROOT / folder).glob("*.*")]
     return sorted(path for path in files if path.suffix in (".in", ".out") and is_whole(path.read_text()))
 
 

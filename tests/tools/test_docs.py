@@ -91,6 +91,36 @@ class Commands(unittest.TestCase):
             self.assertRegex(got.rstrip("\n"), f"^{pattern}$", command)
 
 
+class Report(unittest.TestCase):
+    """docs/REPORT.md has a row for each word that documents have, and reads a stored document line by line."""
+
+    PAGE = (runs.ROOT / "docs" / "REPORT.md").read_text()
+
+    def part(self, title: str) -> str:
+        return re.split(r"^## ", self.PAGE.split(f"## {title}\n")[1], flags=re.M)[0]
+
+    def test_each_act_decision_end_and_answer_of_the_documents_has_its_row(self) -> None:
+        acts, decisions, ends, answers = map(self.part, ("The acts", "Decisions", "How a region ends", "Answers of items"))
+        for name in runs.names():
+            document = runs.document(name)
+            for entry in document.entries:
+                words = re.sub(r"^ACT \d+ \d+ \S+ \d+ (?:STOP (?=.)|FAIL )?", "", entry.line).split(" ")
+                self.assertRegex(acts, rf"`{words[0]}\b", entry.line)
+                if words[0] == "DECIDE":
+                    self.assertRegex(decisions, rf"`{' '.join(words[1:3]) if words[1] in ('START', 'END') else words[1]}\b", entry.line)
+                if words[0] == "ENDED":
+                    self.assertRegex(ends, rf"`{words[1]}\b", entry.line)
+            for line in document.report.of("ITEM"):
+                if (answer := line.split(" ")[2]) not in ("OPEN", "LOST"):
+                    self.assertRegex(answers, rf"`{answer}\b", line)
+
+    def test_the_takeover_is_read_as_it_is_stored(self) -> None:
+        stored = (runs.ROOT / "examples" / "takeover_after_an_abend.out").read_text().splitlines()
+        shown = re.findall(r"^    (\* .*)$", self.part("A takeover, line by line"), re.M)
+        self.assertGreater(len(shown), 25)
+        self.assertEqual([line for line in stored if line in shown], shown)
+
+
 class Links(unittest.TestCase):
     def test_files_that_pages_name_are_there(self) -> None:
         for page in ("README.md", "docs/CONCEPTS.md", "docs/TUTORIAL.md", "docs/SCENARIOS.md", "docs/REPORT.md", "docs/FORMATS.md",

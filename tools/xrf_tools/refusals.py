@@ -36,7 +36,6 @@ REASONS = {
     "TOO-MANY": "there may be no more of these lines",
     "RRN-RANGE": "a RECORD line names a number above FILE",
     "NO-END": "the text ends, and END has not come",
-    "NOT-BUILT": "this line is read, but the program does not run it yet",
     "NOT-ENABLED": "this choice can't be made at this point of the run",
     "DISHONEST": "this incarnation is not known to have ended: no such number was given, or its region is there",
     "TORN-LENGTH": "as many bytes can't land of the write that comes next",
@@ -132,8 +131,6 @@ def right(refused: Refused) -> Iterator[str]:
         yield f"The limits are: {LIMITS}."
     elif reason == "RRN-RANGE":
         yield from too_high(refused)
-    elif reason == "NOT-BUILT":
-        yield "docs/SCENARIOS.md says which lines are run."
 
 
 def forms(refused: Refused) -> list[str]:

@@ -2,6 +2,7 @@
 
 import os
 import random
+import shlex
 import subprocess
 import sys
 import tempfile
@@ -59,7 +60,8 @@ class Faults(unittest.TestCase):
         self.fault("draw", str(runs.path(runs.TAKEOVER)), "--output", "/nowhere/x.html")
 
     def test_a_reader_that_ends_early_is_no_traceback(self) -> None:
-        command = f"{sys.executable} -B -m xrf_tools draw --text {runs.path('the_full_log')} | head -n 1"
+        path = shlex.quote(str(runs.path("the_full_log")))
+        command = f"{shlex.quote(sys.executable)} -B -m xrf_tools draw --text {path} | head -n 1"
         done = subprocess.run(command, shell=True, capture_output=True, text=True, cwd=runs.ROOT / "tools")
         self.assertEqual((done.stdout.count("\n"), done.stderr), (1, ""))
 

@@ -257,6 +257,19 @@ class Texts(unittest.TestCase):
                 self.assertIn(option, page)
                 self.assertIn(option, completions)
 
+    def test_the_help_has_each_word_each_status_and_what_is_left_on_the_disk(self) -> None:
+        told = subprocess.run([str(ROOT / "xrf"), "--help"], capture_output=True, text=True).stdout
+        page = (ROOT / "tools/man/xrf.1").read_text().replace("\\-", "-")
+        for word in self.complete("xrf", ""):
+            self.assertIn(f" {word}", told)
+            self.assertIn(word, page)
+        for status in (0, 8, 12, 16, 20, 24, 28, 1):
+            self.assertRegex(told, rf"\b{status} ")
+            self.assertIn(f".B {status}\n", page)
+        for left in ("out/", "crates/xrf/out/xrf", "crates/xrf/out/build.log"):
+            self.assertIn(left, told)
+            self.assertIn(left, page)
+
     def complete(self, *words: str) -> list[str]:
         script = ('source "$1"; shift; COMP_WORDS=("$@"); COMP_CWORD=$(($# - 1)); _xrf; '
                   'printf "%s\\n" "${COMPREPLY[@]}"')

@@ -245,6 +245,13 @@ class Columns(unittest.TestCase):
                 lines = self.lines(name, width)[:-3]
                 self.assertLessEqual(max(map(len, lines)), max(width, 84) + 1, name)
 
+    def test_a_part_and_a_width_may_be_asked_for(self) -> None:
+        status, out, err = call("draw", "--text", "--acts", "279-295", "--width", "90", str(runs.path(runs.TAKEOVER)))
+        self.assertEqual((status, err), (0, ""))
+        acts = [int(found) for found in re.findall(r"^ +(\d+) ", out, re.M)]
+        self.assertEqual((min(acts), max(acts)), (275, 295))
+        self.assertLessEqual(max(map(len, out.split("\n")[:-4])), 91)
+
     def test_the_tool_writes_them_and_a_page(self) -> None:
         path = str(runs.path(runs.TAKEOVER))
         status, out, err = call("draw", "--text", path)

@@ -204,6 +204,33 @@ class Building(Checkout):
         self.assertIn("rt is missing", done.stderr)
 
 
+class Missing(Checkout):
+    """What is wanted and is not there."""
+
+    def few(self, *names: str) -> dict[str, str]:
+        """An environment in which these commands alone are found."""
+        folder = self.room / "few"
+        folder.mkdir()
+        for name in names:
+            (folder / name).symlink_to(shutil.which(name))
+        return {**self.env, "PATH": str(folder)}
+
+    def test_tools_say_that_python3_is_missing_and_the_launcher_does_without(self) -> None:
+        env = self.few("bash", "cat", "readlink")
+        run = str(ROOT / "tests/rows/ordinary_unit_of_work.out")
+        for word in ("draw", "explain", "check"):
+            done = self.run_xrf(word, run, env=env)
+            self.assertEqual((done.returncode, done.stdout, done.stderr), (1, "", f"xrf: {word} needs python3, which is missing\n"))
+        self.assertEqual(self.run_xrf("--help", env=env).returncode, 0)
+
+    def test_tools_do_without_rt_and_without_the_program(self) -> None:
+        run = str(ROOT / "tests/rows/ordinary_unit_of_work.out")
+        env = self.few("bash", "cat", "readlink", "python3")
+        for word in ("draw", "explain"):
+            done = self.run_xrf(word, run, env=env)
+            self.assertEqual((done.returncode, done.stderr), (0, ""))
+
+
 @unittest.skipUnless(shutil.which("make"), "make is missing")
 class Installing(Checkout):
     def make(self, *words: str) -> None:

@@ -122,6 +122,15 @@ class Report(unittest.TestCase):
 
 
 class Links(unittest.TestCase):
+    def test_the_home_of_each_word_of_the_glossary_has_its_name(self) -> None:
+        rows = re.findall(r"^\|.*\| `(\w+)`(?:, `(\w+)`)? \|$", (runs.ROOT / "docs/GLOSSARY.md").read_text(), re.M)
+        self.assertGreater(len(rows), 40)
+        for crate, name in rows:
+            sources = [path for part in ("src", "specs") for path in (runs.ROOT / "crates" / crate / part).glob("**/*")]
+            self.assertTrue(sources, crate)
+            found = any(re.search(rf"\b{name}\b", path.read_text()) for path in sources if path.is_file())
+            self.assertTrue(found, f"{crate}, {name}")
+
     def test_files_that_pages_name_are_there(self) -> None:
         for page in ("README.md", "docs/CONCEPTS.md", "docs/TUTORIAL.md", "docs/SCENARIOS.md", "docs/REPORT.md", "docs/FORMATS.md",
                      "examples/README.md", "CHANGELOG.md", "tools/editors/README.md"):

@@ -131,9 +131,17 @@ class Links(unittest.TestCase):
             found = any(re.search(rf"\b{name}\b", path.read_text()) for path in sources if path.is_file())
             self.assertTrue(found, f"{crate}, {name}")
 
+    def test_the_sources_that_contributors_are_sent_to_are_there(self) -> None:
+        text = (runs.ROOT / "docs/CONTRIBUTING.md").read_text()
+        names = re.findall(r"`((?:[\w/]+/)?\w+\.(?:rt|antt|py))`", text)
+        self.assertGreater(len(names), 30)
+        for name in names:
+            folders = ("", "crates/", "crates/*/", "crates/*/src/")
+            self.assertTrue(any(list(runs.ROOT.glob(folder + name)) for folder in folders), name)
+
     def test_files_that_pages_name_are_there(self) -> None:
-        for page in ("README.md", "docs/CONCEPTS.md", "docs/TUTORIAL.md", "docs/SCENARIOS.md", "docs/REPORT.md", "docs/FORMATS.md",
-                     "examples/README.md", "CHANGELOG.md", "tools/editors/README.md"):
+        pages = ["CONCEPTS", "TUTORIAL", "SCENARIOS", "REPORT", "FORMATS", "CONTRIBUTING"]
+        for page in ("README.md", *(f"docs/{name}.md" for name in pages), "examples/README.md", "CHANGELOG.md", "tools/editors/README.md"):
             text = (runs.ROOT / page).read_text()
             for name in re.findall(r"\]\(([^)]+)\)", text):
                 self.assertTrue((runs.ROOT / page).parent.joinpath(name).exists(), f"{page}: {name}")

@@ -5,12 +5,11 @@ from html import escape
 
 from xrf_tools.acts import Act
 from xrf_tools.picture.plan import GUTTER, MOST_BESIDE, NAMES, Plan
-from xrf_tools.picture.words import OPERATOR, cut, state_of, words_of
+from xrf_tools.picture.words import MOST_LETTERS, OPERATOR, cut, letters_beside, state_of, words_of
 from xrf_tools.scene import Row, Scene, Span, Step
 
 PART = 64
 HEAD = 36
-MOST_LETTERS = 39
 # How far apart the marks of a round stand.
 BESIDE = 13
 
@@ -145,8 +144,7 @@ def text_of(row: Row, x: int, y: int) -> str:
     step = row.steps[-1]
     act = step.entry.act
     state = state_of(step)
-    taken = (len(state) + 3 if state else 0) + (8 if row.is_round else 0)
-    text = cut(words_of(row), MOST_LETTERS - taken)
+    text = cut(words_of(row), MOST_LETTERS - letters_beside(row))
     css = "act stop" if act.how in ("stopped", "failed") else "act operator" if act.verb in OPERATOR else "act"
     anchor = ' text-anchor="end"' if row.site == "A" else ""
     tag = f'<tspan class="state"> → {state}</tspan>' if state else ""

@@ -2,10 +2,14 @@
 
 from dataclasses import dataclass
 
+from xrf_tools.picture.words import letters_of
 from xrf_tools.scene import Scene, Span
 
 GUTTER = 72
-LANE = 296
+# What a letter takes, and a lane beside its letters; the least is for the name above it.
+LETTER = 7
+LANE = 23
+LEAST_LANE = 160
 GAP = 26
 ROW = 20
 TICK = 18
@@ -38,8 +42,14 @@ class Plan:
         return span.kind == "life" and span.last == len(self.tops) - 1
 
 
+def lane(scene: Scene, site: str) -> int:
+    """How wide the words of a site stand beside its line."""
+    letters = max((letters_of(row) for row in scene.rows if row.site == site), default=0)
+    return max(LEAST_LANE, LANE + LETTER * letters)
+
+
 def plan(scene: Scene) -> Plan:
-    x = GUTTER + LANE
+    x = GUTTER + lane(scene, "A")
     lines = {"A": x}
     x += GAP
     for name, width in SETS.items():
@@ -52,4 +62,4 @@ def plan(scene: Scene) -> Plan:
         tops.append(y)
         heights.append(TICK if row.is_tick else ROW)
         y += heights[-1]
-    return Plan(lines, tops, heights, lines["B"] + LANE, y + FOOT)
+    return Plan(lines, tops, heights, lines["B"] + lane(scene, "B"), y + FOOT)

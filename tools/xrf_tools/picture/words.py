@@ -4,6 +4,10 @@ from xrf_tools.scene import Row, Step
 
 # What an operator, an exit or the machine does, and not the region by itself.
 OPERATOR = ("CEBT", "REPLY", "EXIT", "ABEND", "CONFIRM", "START")
+# The most letters beside a lane, with the state that an act leads to.
+MOST_LETTERS = 39
+# As many letters as the marks of a round take, but for the last.
+ROUND = 8
 
 
 def cut(text: str, most: int) -> str:
@@ -24,6 +28,17 @@ def words_of(row: Row) -> str:
     if act.verb == "RESTARTED":
         return " ".join([text, *settled(step)])
     return text
+
+
+def letters_beside(row: Row) -> int:
+    """How many letters are taken beside the words, by the state and by the marks of a round."""
+    state = state_of(row.steps[-1])
+    return (len(state) + 3 if state else 0) + (ROUND if row.is_round else 0)
+
+
+def letters_of(row: Row) -> int:
+    """How many letters a row takes beside its lane."""
+    return min(len(words_of(row)) + letters_beside(row), MOST_LETTERS)
 
 
 def written(step: Step) -> str:

@@ -1,5 +1,5 @@
 -- What a tick and a confirmation ask of a pair, and what they leave of it.
-use Rattle.std.proofs.Common.{◌≡◌, ◌≢◌, ◌≤◌, ◌<◌, ◌+◌, ◌&&◌, not, nat_le, ℕ, Bool, true, false, ◌∙◌, sym, ap, subst, refl, arith, List, ◌∷◌, length, Option, Some, None, Result, Ok, Err}
+use Rattle.std.proofs.Common.{◌≡◌, ◌≢◌, ◌≤◌, ◌<◌, ◌+◌, ◌&&◌, not, nat_le, is_none, ℕ, Bool, true, false, ◌∙◌, sym, ap, subst, refl, arith, List, ◌∷◌, length, Option, Some, None, Result, Ok, Err}
 use Rattle.std.proofs.lemmas.Grind.{common_steps}
 use Rattle.xrf_base.specs.declared.site.Site.{Site}
 use Rattle.xrf_base.specs.declared.site.Site.TheVariants as site
@@ -33,6 +33,19 @@ past-last n last b past = grind (arith, common_steps)
 
 pub up-to-last : (n last : ℕ) (b : Bool) → n ≢ 0 → n ≤ last → (nat_le 1 n && nat_le n last && b) ≡ b
 up-to-last n last b some within = grind (arith, common_steps)
+
+-- and of those given the ones that no job holds and that are not confirmed yet
+yet-free : (is_live is_confirmed : Bool) → (is_none (unless (not is_live) Dishonest) && not is_confirmed) ≡ (not is_confirmed && not is_live)
+yet-free true true = refl
+yet-free true false = refl
+yet-free false true = refl
+yet-free false false = refl
+
+pub yet-confirmable : (n last : ℕ) (is_live is_confirmed : Bool) → 1 ≤ n → n ≤ last
+    → (not is_confirmed && not is_live) ≡ (is_none (unless (nat_le 1 n && nat_le n last && not is_live) Dishonest) && not is_confirmed)
+yet-confirmable n last is_live is_confirmed some within =
+    sym (ap (λ (b : Bool). is_none (unless b Dishonest) && not is_confirmed) (up-to-last n last (not is_live) (omega (arith, some)) within)
+    ∙ yet-free is_live is_confirmed)
 
 -- A TICK: its entry, and what it leaves of each place
 abbrev pub tick_entry : (at : ℕ) → Entry

@@ -1,10 +1,8 @@
 //! One choice to a pair: a tick, a confirmation, or a choice of a site.
 
-ghost use Rattle.std.specs.Prelude.{◌≡◌, ◌≤◌, List, Some, Ok};
+ghost use Rattle.std.specs.Prelude.{◌≡◌, List, Some, Ok};
 ghost use Rattle.xrf_setup.specs.declared.choice.Choice.TheVariants as choice;
 ghost use Rattle.xrf_trace.specs.declared.entry.Entry.{Entry as Made};
-ghost use Rattle.xrf_trace.specs.Jobs.{live};
-ghost use Rattle.xrf_trace.specs.Refusals.{may_confirm};
 ghost use Rattle.xrf_trace.specs.Words.{reserve_is_free};
 ghost use Rattle.xrf_world.specs.Making.{Makes, MakesAt, site_of};
 ghost use Rattle.xrf_world.specs.Standing.{StandsAt, Stands, Goes};
@@ -107,28 +105,6 @@ impl Pair {
         self.b.seat.ticked(tick);
         self.middle.follow(&entry);
         entry
-    }
-
-    /// Whether a job holds a number, which is not 0.
-    pub(crate) fn is_live(&self, number: Inc) -> bool
-        requires { 1 ≤ number }
-        ensures { (t : List Made) → Stands self.now t → result ≡ live self.now.middle.scenario t number }
-    {
-        self.a.seat.holds(number) || self.b.seat.holds(number)
-    }
-
-    /// Whether a number may be confirmed: it was given, and no job holds it.
-    pub(crate) fn may_confirm(&self, number: Inc) -> bool
-        requires { (t : List Made) × Stands self.now t }
-        ensures { (t : List Made) → Stands self.now t → result ≡ may_confirm self.now.middle.scenario t number }
-    {
-        if number == 0 {
-            return false;
-        }
-        if number > self.middle.data_sets.control().last() {
-            return false;
-        }
-        !self.is_live(number)
     }
 
     // CONFIRM

@@ -2,6 +2,7 @@
 #![tactic(auto)]
 
 mod choosing;
+mod confirming;
 mod counts;
 mod items;
 mod job;

@@ -10,7 +10,7 @@ ghost use Rattle.xrf_trace.specs.Words as words;
 
 use crate::state::{ItemState, JobState, LogCounts};
 use crate::world::World;
-use xrf_base::{Site, Tick};
+use xrf_base::{Inc, Site, Tick};
 use xrf_cavm::Known;
 use xrf_ctl::Control;
 use xrf_devices::DataSets;
@@ -38,6 +38,13 @@ impl World {
         ensures { result ≡ report.notice_at self.now.scenario self.now.trace site }
     {
         self.pair.place(site).seat.notice()
+    }
+
+    /// The least number that CONFIRM accepts and that is not yet confirmed, none where CONFIRM accepts no such number.
+    pub fn least_confirmable(&self) -> Option<Inc>
+        ensures { report.IsLeast (report.may_be_confirmed self.now.scenario self.now.trace) result }
+    {
+        self.pair.least_confirmable()
     }
 
     /// The present tick.

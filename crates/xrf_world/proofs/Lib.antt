@@ -10,3 +10,4 @@ pub mod MadeLaws
 pub mod ItemLaws
 pub mod ChoiceLaws
 pub mod WorldLaws
+pub mod ImageLaws

@@ -5,4 +5,5 @@ pub mod Places
 pub mod Standing
 pub mod Making
 pub mod Report
+pub mod Images
 pub mod Runs

@@ -4,6 +4,7 @@
 mod choosing;
 mod confirming;
 mod counts;
+mod images;
 mod items;
 mod job;
 mod log_count;
@@ -26,5 +27,6 @@ mod stopping;
 mod wants;
 mod world;
 
+pub use images::ImageBytes;
 pub use state::{ItemState, JobState, LogCounts};
 pub use world::World;

@@ -2,12 +2,15 @@
 
 ghost use Rattle.std.specs.Prelude.{◌≡◌, ◌+◌, ◌<◌, ◌≤◌, is_some, length, Some, None, MatchOption};
 ghost use Rattle.xrf_devices.specs.Standing.{StandsFor};
+ghost use Rattle.xrf_setup.specs.Scenario.{limits};
+ghost use Rattle.xrf_world.specs.Images.{HaveSizes, AreImagesOf};
 ghost use Rattle.xrf_world.specs.Report as report;
 ghost use Rattle.xrf_trace.specs.Devices as trace;
 ghost use Rattle.xrf_trace.specs.Jobs.{hist, known_of};
 ghost use Rattle.xrf_trace.specs.Scenario.{work};
 ghost use Rattle.xrf_trace.specs.Words as words;
 
+use crate::images::ImageBytes;
 use crate::state::{ItemState, JobState, LogCounts};
 use crate::world::World;
 use xrf_base::{Inc, Site, Tick};
@@ -119,5 +122,14 @@ impl World {
         ensures { StandsFor result.now self.now.scenario self.now.trace }
     {
         &self.pair.middle.data_sets
+    }
+
+    /// Makes images those of the data sets, whose sizes they have. It takes no memory.
+    pub fn images_into(&self, images: &mut ImageBytes)
+        requires { HaveSizes images.old (limits self.now.scenario) }
+        ensures sizes { HaveSizes images.new (limits self.now.scenario) }
+        ensures images { AreImagesOf images.new self.now.scenario self.now.trace }
+    {
+        images.copy_from(&self.pair.middle.data_sets);
     }
 }

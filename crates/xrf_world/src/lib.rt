@@ -7,6 +7,7 @@ mod counts;
 mod images;
 mod items;
 mod job;
+mod journal;
 mod log_count;
 mod making;
 mod middle;

@@ -15,19 +15,14 @@ ghost use Rattle.xrf_world.specs.Report.{notice_at};
 ghost use Rattle.xrf_world.specs.Runs.{Applied};
 ghost use Rattle.xrf_world.specs.Standing.{IsWorld, Stands};
 
+use crate::journal::push_entry;
 use crate::pair::Pair;
 use std::alloc::{AllocError, Global};
 use std::marker::Model;
-use xrf_base::{Name8, Site, UnitId};
-use xrf_cavm::Decided;
-use xrf_cebt::{Cebt, CebtReply};
-use xrf_ctl::{Control, Signal};
+use xrf_base::Site;
 use xrf_exit::ExitAnswer;
-use xrf_history::EndWhy;
-use xrf_logrec::{Keypoint, LogRec};
-use xrf_msg::Message;
 use xrf_setup::ranges::CHOICES_MOST;
-use xrf_setup::{Choice, Landing, Scenario, TornBytes};
+use xrf_setup::{Choice, Scenario};
 use xrf_trace::{Entry, Refused};
 
 /// A scenario at work. Contracts see the scenario and the trace, the newest entry first (`Run` of the specs).
@@ -49,39 +44,6 @@ impl Model for World {
     ghost use Rattle.xrf_world.specs.Standing.{IsWorld};
 
     ghost invariant = { λ w. IsWorld w.pair w.journal.items (vec_capacity w.journal) };
-}
-
-// an entry more, for which there is room
-fn push_entry(journal: &mut Vec<Entry>, entry: Entry)
-    requires room { vec_len journal.old < vec_capacity journal.old }
-    ensures items { journal.new.items ≡ journal.old.items ++ entry ∷ [] }
-    ensures capacity { vec_capacity journal.new ≡ vec_capacity journal.old }
-{
-    // the check finds the layout of an entry only where each type in it is named
-    let _name: Option<Name8> = None;
-    let _control: Option<Control> = None;
-    let _message: Option<Message> = None;
-    let _rec: Option<LogRec> = None;
-    let _decided: Option<Decided> = None;
-    let _landing: Option<Landing> = None;
-    let _torn: Option<TornBytes> = None;
-    let _keypoint: Option<Keypoint> = None;
-    let _signal: Option<Signal> = None;
-    let _why: Option<EndWhy> = None;
-    let _cebt: Option<Cebt> = None;
-    let _reply: Option<CebtReply> = None;
-    let _exit: Option<ExitAnswer> = None;
-    let _unit: Option<UnitId> = None;
-    let act = entry.act;
-    let land = entry.land;
-    let who = entry.who;
-    journal.push_reserved(Entry {
-        tick: entry.tick,
-        who,
-        inc: entry.inc,
-        act,
-        land,
-    });
 }
 
 // a choice, and its entry

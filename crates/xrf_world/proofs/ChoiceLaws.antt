@@ -1,5 +1,5 @@
 -- What a tick and a confirmation ask of a pair, and what they leave of it.
-use Rattle.std.proofs.Common.{◌≡◌, ◌≢◌, ◌≤◌, ◌<◌, ◌+◌, ◌&&◌, not, nat_le, is_none, ℕ, Bool, true, false, ◌∙◌, sym, ap, subst, refl, arith, List, ◌∷◌, length, Option, Some, None, Result, Ok, Err}
+use Rattle.std.proofs.Common.{◌≡◌, ◌≢◌, ◌≤◌, ◌<◌, ◌+◌, ◌&&◌, not, nat_le, is_none, ℕ, Bool, true, false, ◌∙◌, sym, ap, subst, refl, arith, inl, inr, eq-or-lt_of_le, List, ◌∷◌, length, Option, Some, None, Result, Ok, Err}
 use Rattle.std.proofs.lemmas.Grind.{common_steps}
 use Rattle.xrf_base.specs.declared.site.Site.{Site}
 use Rattle.xrf_base.specs.declared.site.Site.TheVariants as site
@@ -46,6 +46,14 @@ pub yet-confirmable : (n last : ℕ) (is_live is_confirmed : Bool) → 1 ≤ n �
 yet-confirmable n last is_live is_confirmed some within =
     sym (ap (λ (b : Bool). is_none (unless b Dishonest) && not is_confirmed) (up-to-last n last (not is_live) (omega (arith, some)) within)
     ∙ yet-free is_live is_confirmed)
+
+-- what holds of no number up to one, and not of the next, holds of none up to that
+pub none-to : (test : ℕ → Bool) (n : ℕ) → ((m : ℕ) → m ≤ n → test m ≡ false) → test (n + 1) ≡ false → (m : ℕ) → m ≤ n + 1 → test m ≡ false
+none-to test n before at m within =
+    elim (eq-or-lt_of_le within) [
+      | inl same ↦ subst (λ (k : ℕ). test k ≡ false) (sym same) at
+      | inr less ↦ before m (omega (arith, less))
+    ]
 
 -- A TICK: its entry, and what it leaves of each place
 abbrev pub tick_entry : (at : ℕ) → Entry

@@ -57,9 +57,9 @@ impl Pair {
         ensures { (t : List Made) → Stands self.now t → IsLeast (may_be_confirmed self.now.middle.scenario t) result }
     {
         let last = self.last();
-        for number in 1..=last {
-            if self.may_be_confirmed(number) {
-                return Some(number);
+        for before in 0..last {
+            if self.may_be_confirmed(before + 1) {
+                return Some(before + 1);
             }
         }
         None

@@ -4,7 +4,6 @@ use Rattle.xrf_setup.specs.declared.choice.Choice.{Choice}
 use Rattle.xrf_scenario.specs.Canonical.{numbered_from, at_lines, scenario_lines}
 use Rattle.xrf_setup.specs.Scenario.{Scen}
 use Rattle.xrf_setup.specs.declared.ranges.TheConstants.{CHOICES_MOST}
-use Rattle.xrf_scenario.specs.declared.built.Forms.TheVariants.{All}
 use Rattle.xrf_trace.specs.Runs.{run, run_from, IsRun, Refusal}
 use Rattle.xrf_trace.proofs.RunLaws.{runs_are_runs}
 use Rattle.xrf_trace.specs.declared.entry.Entry.{Entry}
@@ -57,7 +56,7 @@ document-of-itself s choices t text ran keeps same again short =
       scenario = s;
       choices = at_lines s choices;
       size = omega arith;
-      reads = again All tt;
+      reads = again;
       trace = t;
       is_run = ap (run s) back ∙ ran;
       safe = keeps.0;

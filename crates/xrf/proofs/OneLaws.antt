@@ -3,7 +3,6 @@ use Rattle.std.proofs.Common.{String, ◌≡◌, ◌⊎◌, inl, inr, ℕ, Bool,
 use Rattle.std.specs.Global.{Global}
 use Rattle.xrf_edge.specs.Faults.{HasRisen}
 use Rattle.xrf_setup.specs.Scenario.{Scen}
-use Rattle.xrf_scenario.specs.declared.built.Forms.TheVariants.{All}
 use Rattle.xrf_scenario.specs.declared.numbered.Numbered.{Numbered}
 use Rattle.xrf_scenario.proofs.ReadingLaws.{one_reading, never_both, one_fault}
 use Rattle.xrf_trace.specs.declared.entry.Entry.{Entry}
@@ -24,14 +23,14 @@ same_run s s' cs cs' is are = ap (λ (t : Scen). run t (plain cs)) is ∙ ap (λ
 
 pub one_text : OneText
 one_text bytes text text' d d' =
-    let same = one_reading All bytes d.scenario d'.scenario d.choices d'.choices d.reads d'.reads in
+    let same = one_reading bytes d.scenario d'.scenario d.choices d'.choices d.reads d'.reads in
     d.document ∙ ap (λ (t : Scen). doc t (plain d.choices)) same.0 ∙ ap (λ (l : List Numbered). doc d'.scenario (plain l)) same.1 ∙ sym d'.document
 
 pub never_refused : NeverRefused
 never_refused bytes text number (Grammar reason) d (inl large) = omega (arith, d.size, large.0)
-never_refused bytes text number (Grammar reason) d (inr r) = never_both All bytes d.scenario d.choices number reason d.reads r.1
+never_refused bytes text number (Grammar reason) d (inr r) = never_both bytes d.scenario d.choices number reason d.reads r.1
 never_refused bytes text number (Choosing reason) d r =
-    let same = one_reading All bytes d.scenario r.1.scenario d.choices r.1.choices d.reads r.1.reads in
+    let same = one_reading bytes d.scenario r.1.scenario d.choices r.1.choices d.reads r.1.reads in
     let clash = sym d.is_run ∙ same_run d.scenario r.1.scenario d.choices r.1.choices same.0 same.1 ∙ r.1.stopped in
     cc
 
@@ -47,7 +46,7 @@ reason_in (Err stopped) = stopped.reason
 -- a run stops at one choice
 one_stop : (bytes : List ℕ) (number number' : ℕ) (reason reason' : Why) → Stops bytes number reason → Stops bytes number' reason' → (number ≡ number') × (reason ≡ reason')
 one_stop bytes number number' reason reason' a b =
-    let same = one_reading All bytes a.scenario b.scenario a.choices b.choices a.reads b.reads in
+    let same = one_reading bytes a.scenario b.scenario a.choices b.choices a.reads b.reads in
     let ends = sym a.stopped ∙ same_run a.scenario b.scenario a.choices b.choices same.0 same.1 ∙ b.stopped in
     let places : a.place ≡ b.place = ap place_in ends in
     let reasons : reason ≡ reason' = ap reason_in ends in
@@ -61,11 +60,11 @@ one_refusal bytes number number' (Grammar reason) (Grammar reason') (inl a) (inl
 one_refusal bytes number number' (Grammar reason) (Grammar reason') (inl a) (inr b) = absurd (omega (arith, a.0, b.0))
 one_refusal bytes number number' (Grammar reason) (Grammar reason') (inr a) (inl b) = absurd (omega (arith, a.0, b.0))
 one_refusal bytes number number' (Grammar reason) (Grammar reason') (inr a) (inr b) =
-    let same = one_fault All bytes number number' reason reason' a.1 b.1 in (same.0, ap Grammar same.1)
+    let same = one_fault bytes number number' reason reason' a.1 b.1 in (same.0, ap Grammar same.1)
 one_refusal bytes number number' (Grammar reason) (Choosing reason') (inl a) b = absurd (omega (arith, a.0, b.0))
-one_refusal bytes number number' (Grammar reason) (Choosing reason') (inr a) b = absurd (never_both All bytes b.1.scenario b.1.choices number reason b.1.reads a.1)
+one_refusal bytes number number' (Grammar reason) (Choosing reason') (inr a) b = absurd (never_both bytes b.1.scenario b.1.choices number reason b.1.reads a.1)
 one_refusal bytes number number' (Choosing reason) (Grammar reason') a (inl b) = absurd (omega (arith, a.0, b.0))
-one_refusal bytes number number' (Choosing reason) (Grammar reason') a (inr b) = absurd (never_both All bytes a.1.scenario a.1.choices number' reason' a.1.reads b.1)
+one_refusal bytes number number' (Choosing reason) (Grammar reason') a (inr b) = absurd (never_both bytes a.1.scenario a.1.choices number' reason' a.1.reads b.1)
 one_refusal bytes number number' (Choosing reason) (Choosing reason') a b =
     let same = one_stop bytes number number' reason reason' a.1 b.1 in (same.0, ap Choosing same.1)
 

@@ -2,7 +2,6 @@
 use Rattle.std.specs.Prelude.{◌≡◌, ℕ, ◌≤◌, List, length, Result, Ok, Err}
 use Rattle.xrf_setup.specs.Scenario.{Scen}
 use Rattle.xrf_scenario.specs.Reading.{Reads}
-use Rattle.xrf_scenario.specs.declared.built.Forms.TheVariants.{All}
 use Rattle.xrf_scenario.specs.declared.numbered.Numbered.{Numbered}
 use Rattle.xrf_trace.specs.declared.entry.Entry.{Entry}
 use Rattle.xrf_trace.specs.Runs.{run}
@@ -23,7 +22,7 @@ pub record IsDocument (bytes text : List ℕ) : Type 0 where
   pub scenario : Scen
   pub choices : List Numbered
   pub size : length bytes ≤ INPUT_MOST
-  pub reads : Reads All bytes scenario choices
+  pub reads : Reads bytes scenario choices
   pub trace : List Entry
   pub is_run : run scenario (plain choices) ≡ Ok trace
   pub safe : Safe scenario trace

@@ -7,10 +7,9 @@ use Rattle.xrf_scenario.specs.Canonical.{fed}
 use Rattle.xrf_report.specs.Words.{blank}
 use Rattle.xrf_setup.specs.declared.choice.Choice.{Choice}
 use Rattle.xrf_setup.specs.declared.ranges.TheConstants.{INPUT_MOST}
-use Rattle.xrf_scenario.specs.declared.built.Forms.TheVariants.{All}
 use Rattle.xrf_scenario.specs.declared.numbered.Numbered.{Numbered}
 use Rattle.xrf_grammar.specs.declared.reason.Reason as grammar
-use Rattle.xrf_grammar.specs.declared.reason.Reason.TheVariants.{TooLarge, BadByte, LongLine, NoHeader, BadFormat, ChoicesGiven, AfterEnd, UnknownWord, WordCount, BadSite, BadNumber, OutOfRange, BadName, BadValue, BadHex, BadOption, BadItem, BadCebt, BadPlan, PlanOrder, Twice, TooMany, RrnRange, NoEnd, NotBuilt}
+use Rattle.xrf_grammar.specs.declared.reason.Reason.TheVariants.{TooLarge, BadByte, LongLine, NoHeader, BadFormat, ChoicesGiven, AfterEnd, UnknownWord, WordCount, BadSite, BadNumber, OutOfRange, BadName, BadValue, BadHex, BadOption, BadItem, BadCebt, BadPlan, PlanOrder, Twice, TooMany, RrnRange, NoEnd}
 use Rattle.xrf_trace.specs.declared.entry.Refused.{Refused}
 use Rattle.xrf_trace.specs.declared.entry.Refused.TheVariants.{NotEnabled, Dishonest, TornLength, NotAllowed}
 use Rattle.xrf_trace.specs.Runs.{run}
@@ -25,7 +24,7 @@ plain numbered = map (λ n. n.choice) numbered
 pub record Stops (bytes : List ℕ) (number : ℕ) (reason : Refused) : Type 0 where
   pub scenario : Scen
   pub choices : List Numbered
-  pub reads : Reads All bytes scenario choices
+  pub reads : Reads bytes scenario choices
   pub place : ℕ
   pub stopped : run scenario (plain choices) ≡ Err (record { place = place; reason = reason })
   pub stopping : Numbered
@@ -35,7 +34,7 @@ pub record Stops (bytes : List ℕ) (number : ℕ) (reason : Refused) : Type 0 w
 -- The input is refused at a line for a reason: it is too large, which is said at line 0; or else its
 -- grammar is bad first there; or else the run stops there.
 abbrev pub IsRefusal : List ℕ → ℕ → Reason → Type 0
-IsRefusal bytes number (Grammar reason) = ((INPUT_MOST < length bytes) × (number ≡ 0) × (reason ≡ TooLarge)) ⊎ ((length bytes ≤ INPUT_MOST) × HasBad All bytes number reason)
+IsRefusal bytes number (Grammar reason) = ((INPUT_MOST < length bytes) × (number ≡ 0) × (reason ≡ TooLarge)) ⊎ ((length bytes ≤ INPUT_MOST) × HasBad bytes number reason)
 IsRefusal bytes number (Choosing reason) = (length bytes ≤ INPUT_MOST) × Stops bytes number reason
 
 abbrev pub grammar_text : grammar.Reason → List ℕ
@@ -63,7 +62,6 @@ grammar_text Twice = codes "TWICE"
 grammar_text TooMany = codes "TOO-MANY"
 grammar_text RrnRange = codes "RRN-RANGE"
 grammar_text NoEnd = codes "NO-END"
-grammar_text NotBuilt = codes "NOT-BUILT"
 
 abbrev pub choosing_text : Refused → List ℕ
 choosing_text NotEnabled = codes "NOT-ENABLED"

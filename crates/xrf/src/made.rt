@@ -8,7 +8,6 @@ ghost use Rattle.xrf.specs.declared.refusal.Reason.TheVariants.{Choosing};
 ghost use Rattle.xrf.specs.Refusals.{plain};
 ghost use Rattle.xrf_scenario.specs.Canonical.{AreChoices};
 ghost use Rattle.xrf_scenario.specs.Reading.{Reads};
-ghost use Rattle.xrf_scenario.specs.declared.built.Forms.TheVariants.{All};
 
 use crate::refusal::Reason;
 use crate::running::{Stop, make_all};
@@ -49,7 +48,7 @@ fn stopped(numbered: &[Numbered], stop: Stop) -> Made
 // the document of a scenario and its choices, or the refusal of one of them
 fn ran(alloc: Global, scenario: &Scenario, numbered: &[Numbered]) -> Result<Made, AllocError>
     requires choices { AreChoices (plain numbered.now) }
-    ensures { (bytes : List ℕ) → length bytes ≤ INPUT_MOST → Reads All bytes scenario.now numbered.now → IfOk result (IsMade bytes) }
+    ensures { (bytes : List ℕ) → length bytes ≤ INPUT_MOST → Reads bytes scenario.now numbered.now → IfOk result (IsMade bytes) }
 {
     let choices = plain(alloc, numbered)?;
     let mut world = World::new(alloc, scenario)?;

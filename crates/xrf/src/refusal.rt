@@ -46,7 +46,6 @@ fn grammar_word(reason: Fault) -> &'static [u8]
         Fault::TooMany => b"TOO-MANY",
         Fault::RrnRange => b"RRN-RANGE",
         Fault::NoEnd => b"NO-END",
-        Fault::NotBuilt => b"NOT-BUILT",
     }
 }
 

@@ -11,7 +11,7 @@ use Rattle.xrf_setup.specs.declared.format.Format.{Format}
 use Rattle.xrf_setup.specs.declared.format.Format.TheVariants.{One, Two}
 use Rattle.xrf_grammar.specs.declared.line.Line.{Line}
 use Rattle.xrf_grammar.specs.declared.reason.Reason.{Reason}
-use Rattle.xrf_grammar.specs.declared.reason.Reason.TheVariants.{TooLarge, BadByte, LongLine, NoHeader, BadFormat, ChoicesGiven, AfterEnd, UnknownWord, WordCount, BadSite, BadNumber, OutOfRange, BadName, BadValue, BadHex, BadOption, BadItem, BadCebt, BadPlan, PlanOrder, Twice, TooMany, RrnRange, NoEnd, NotBuilt}
+use Rattle.xrf_grammar.specs.declared.reason.Reason.TheVariants.{TooLarge, BadByte, LongLine, NoHeader, BadFormat, ChoicesGiven, AfterEnd, UnknownWord, WordCount, BadSite, BadNumber, OutOfRange, BadName, BadValue, BadHex, BadOption, BadItem, BadCebt, BadPlan, PlanOrder, Twice, TooMany, RrnRange, NoEnd}
 use Rattle.xrf_grammar.specs.Faults.{IsHereOr, IsFault, IsFaultBy, IsFaultOf, IsFirst}
 use Rattle.xrf_grammar.specs.Fitting.{wrong, form_for, fitting, most_agreed, before_wrong, first_fault}
 use Rattle.xrf_grammar.specs.Grammar.{IsAmong}
@@ -32,7 +32,7 @@ IsTold Holds (Some reason) = IsFirst Holds reason
 
 -- a place in the order is that of one reason
 abbrev reason_at : ℕ → Reason
-reason_at n = if n == 0 then TooLarge else if n == 1 then BadByte else if n == 2 then LongLine else if n == 3 then NoHeader else if n == 4 then BadFormat else if n == 5 then ChoicesGiven else if n == 6 then AfterEnd else if n == 7 then UnknownWord else if n == 8 then WordCount else if n == 9 then BadSite else if n == 10 then BadNumber else if n == 11 then OutOfRange else if n == 12 then BadName else if n == 13 then BadValue else if n == 14 then BadHex else if n == 15 then BadOption else if n == 16 then BadItem else if n == 17 then BadCebt else if n == 18 then BadPlan else if n == 19 then PlanOrder else if n == 20 then Twice else if n == 21 then TooMany else if n == 22 then RrnRange else if n == 23 then NoEnd else NotBuilt
+reason_at n = if n == 0 then TooLarge else if n == 1 then BadByte else if n == 2 then LongLine else if n == 3 then NoHeader else if n == 4 then BadFormat else if n == 5 then ChoicesGiven else if n == 6 then AfterEnd else if n == 7 then UnknownWord else if n == 8 then WordCount else if n == 9 then BadSite else if n == 10 then BadNumber else if n == 11 then OutOfRange else if n == 12 then BadName else if n == 13 then BadValue else if n == 14 then BadHex else if n == 15 then BadOption else if n == 16 then BadItem else if n == 17 then BadCebt else if n == 18 then BadPlan else if n == 19 then PlanOrder else if n == 20 then Twice else if n == 21 then TooMany else if n == 22 then RrnRange else NoEnd
 
 at-rank : (r : Reason) → reason_at (rank r) ≡ r
 at-rank TooLarge = refl
@@ -59,7 +59,6 @@ at-rank Twice = refl
 at-rank TooMany = refl
 at-rank RrnRange = refl
 at-rank NoEnd = refl
-at-rank NotBuilt = refl
 
 pub one-at : (r other : Reason) → rank r ≡ rank other → r ≡ other
 one-at r other e = sym (at-rank r) ∙ ap reason_at e ∙ at-rank other

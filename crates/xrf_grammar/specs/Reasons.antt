@@ -1,7 +1,7 @@
 -- The order of the reasons.
 use Rattle.std.specs.Prelude.{ℕ, nat_lt, Option, Some, None, if◌then◌else◌}
 use Rattle.xrf_grammar.specs.declared.reason.Reason.{Reason}
-use Rattle.xrf_grammar.specs.declared.reason.Reason.TheVariants.{TooLarge, BadByte, LongLine, NoHeader, BadFormat, ChoicesGiven, AfterEnd, UnknownWord, WordCount, BadSite, BadNumber, OutOfRange, BadName, BadValue, BadHex, BadOption, BadItem, BadCebt, BadPlan, PlanOrder, Twice, TooMany, RrnRange, NoEnd, NotBuilt}
+use Rattle.xrf_grammar.specs.declared.reason.Reason.TheVariants.{TooLarge, BadByte, LongLine, NoHeader, BadFormat, ChoicesGiven, AfterEnd, UnknownWord, WordCount, BadSite, BadNumber, OutOfRange, BadName, BadValue, BadHex, BadOption, BadItem, BadCebt, BadPlan, PlanOrder, Twice, TooMany, RrnRange, NoEnd}
 
 abbrev pub rank : Reason → ℕ
 rank TooLarge = 0
@@ -28,7 +28,6 @@ rank Twice = 20
 rank TooMany = 21
 rank RrnRange = 22
 rank NoEnd = 23
-rank NotBuilt = 24
 
 -- of two reasons that may be there, the one that comes first in the order
 abbrev pub earlier : Option Reason → Option Reason → Option Reason

@@ -50,8 +50,6 @@ pub enum Reason {
     RrnRange,
     /// The text ends without END.
     NoEnd,
-    /// A line that the program does not run yet.
-    NotBuilt,
 }
 
 impl Reason {
@@ -84,7 +82,6 @@ impl Reason {
             Reason::TooMany => 21,
             Reason::RrnRange => 22,
             Reason::NoEnd => 23,
-            Reason::NotBuilt => 24,
         }
     }
 }

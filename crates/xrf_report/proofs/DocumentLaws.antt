@@ -73,9 +73,9 @@ report-lines s choices t is are ran fits =
 -- A document is read again as what it is written of, each choice at its line.
 pub document-again : (s : Scen) (choices : List Choice) (t : List Entry) → IsScen s → AreChoices choices → run s choices ≡ Ok t → ReportFits s t
     → ReadsAgain s choices (doc s choices)
-document-again s choices t is are ran fits forms allowed =
-    subst (λ (bytes : List ℕ). Reads forms bytes s (at_lines s choices)) (sym (document-parts s choices t ran))
-    (read_again forms s choices (report s t) is are allowed (report-lines s choices t is are ran fits))
+document-again s choices t is are ran fits =
+    subst (λ (bytes : List ℕ). Reads bytes s (at_lines s choices)) (sym (document-parts s choices t ran))
+    (read_again s choices (report s t) is are (report-lines s choices t is are ran fits))
 
 -- how long the lines of the choices are
 choices-length : (choices : List Choice) → length (text_of (choice_lines choices)) ≡ 12 + length (text_of (map choice_text choices))

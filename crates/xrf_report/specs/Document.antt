@@ -1,9 +1,7 @@
 -- The document of a scenario and its choices: the canonical text, and the report of their run.
 use Rattle.std.specs.Prelude.{ℕ, List, [], ◌++◌, Result, Ok, Err}
-use Rattle.xrf_scenario.specs.Built.{AreAllowed}
 use Rattle.xrf_scenario.specs.Canonical.{canon, at_lines}
 use Rattle.xrf_scenario.specs.Reading.{Reads}
-use Rattle.xrf_scenario.specs.declared.built.Forms.{Forms}
 use Rattle.xrf_setup.specs.Scenario.{Scen}
 use Rattle.xrf_setup.specs.declared.choice.Choice.{Choice}
 use Rattle.xrf_trace.specs.Runs.{run, Refusal}
@@ -20,4 +18,4 @@ doc s choices = document_of s choices (run s choices)
 
 -- A text is read as a scenario and choices, each choice at its line in the canonical text.
 abbrev pub ReadsAgain : Scen → List Choice → List ℕ → Type 0
-ReadsAgain s choices text = (forms : Forms) → AreAllowed forms s choices → Reads forms text s (at_lines s choices)
+ReadsAgain s choices text = Reads text s (at_lines s choices)

@@ -10,7 +10,6 @@ use Rattle.xrf_grammar.specs.declared.reason.Reason.TheVariants.{AfterEnd}
 use Rattle.xrf_scenario.specs.Lines.{is_skipped, is_report, bytes_fault}
 use Rattle.xrf_scenario.specs.Machine.{SaysOnce, step, take_line, take_words}
 use Rattle.xrf_scenario.specs.SoFar.{SoFar, is_whole}
-use Rattle.xrf_scenario.specs.declared.built.Forms.{Forms}
 use Rattle.xrf_scenario.specs.declared.given.Part.{Part}
 use Rattle.xrf_scenario.specs.declared.given.Part.TheVariants.{Making}
 
@@ -26,8 +25,8 @@ passes false false (Some reason) a b c s w f = absurd (cc)
 passes false false None a b c s w f = refl
 
 -- what is made of such a line
-pub taken_again : (forms : Forms) (number : ℕ) (so : SoFar) (line : List ℕ) (choice : Choice) → so.part ≡ Making → SaysOnce line choice
-    → step forms number so line ≡ take_line forms number so (words line) (Ok (Once choice))
-taken_again forms number so line choice making says =
-    passes (is_skipped line) (is_whole so.part) (bytes_fault line) (Ok so) (if is_report line then Ok so else Err AfterEnd) (take_words so.part forms number so (words line)) says.shown (ap is_whole making) says.bytes
-    ∙ ap (λ (p : Part). take_words p forms number so (words line)) making ∙ ap (take_line forms number so (words line)) says.spelled
+pub taken_again : (number : ℕ) (so : SoFar) (line : List ℕ) (choice : Choice) → so.part ≡ Making → SaysOnce line choice
+    → step number so line ≡ take_line number so (words line) (Ok (Once choice))
+taken_again number so line choice making says =
+    passes (is_skipped line) (is_whole so.part) (bytes_fault line) (Ok so) (if is_report line then Ok so else Err AfterEnd) (take_words so.part number so (words line)) says.shown (ap is_whole making) says.bytes
+    ∙ ap (λ (p : Part). take_words p number so (words line)) making ∙ ap (take_line number so (words line)) says.spelled

@@ -16,7 +16,6 @@ use Rattle.xrf_scenario.specs.SettingLines.{setting_lines}
 use Rattle.xrf_scenario.specs.Settled.{by_number, scenario_of}
 use Rattle.xrf_scenario.specs.SoFar.{SoFar, nothing_said}
 use Rattle.xrf_scenario.specs.Taking.{are_within}
-use Rattle.xrf_scenario.specs.declared.built.Forms.{Forms}
 use Rattle.xrf_scenario.specs.declared.given.Part.TheVariants as part
 use Rattle.xrf_setup.specs.declared.settings.Settings.{Settings}
 use Rattle.xrf_scenario.proofs.TextLaws.{IsClean, all-both, lines-again, text-both}
@@ -26,43 +25,42 @@ use Rattle.xrf_scenario.proofs.RecordLaws.{with_places, records-say}
 use Rattle.xrf_scenario.proofs.CltLaws.{with_clt, clt-say}
 use Rattle.xrf_scenario.proofs.WorkLaws.{with_work_a, with_work_b, with_plan, work_a-say, work_b-say, plan-say}
 use Rattle.xrf_scenario.proofs.ChoiceLaws.{ended, choices-say}
-use Rattle.xrf_scenario.proofs.AllowedLaws.{MayCome, may-come}
 use Rattle.xrf_scenario.proofs.SettingsKept.{lines-are}
 use Rattle.xrf_scenario.proofs.PlainLaws.{file-most, scenario-plain, choices-plain}
 
 -- lines say what the first of them say, and then what the others say at any number
-more-say : (forms : Forms) (count : ℕ) (so : SoFar) (ls ms : List (List ℕ)) (mid last : SoFar) → SaysAll forms count so ls mid → ((n : ℕ) → SaysAll forms n mid ms last)
-    → SaysAll forms count so (ls ++ ms) last
-more-say forms count so ls ms mid last first others = both-say forms count so ls ms mid last first (others (count + length ls))
+more-say : (count : ℕ) (so : SoFar) (ls ms : List (List ℕ)) (mid last : SoFar) → SaysAll count so ls mid → ((n : ℕ) → SaysAll n mid ms last)
+    → SaysAll count so (ls ++ ms) last
+more-say count so ls ms mid last first others = both-say count so ls ms mid last first (others (count + length ls))
 
 -- lines of six parts say what the parts say one after the other
-six-say : (forms : Forms) (count : ℕ) (so s1 s2 s3 s4 s5 last : SoFar) (a b c d e f : List (List ℕ)) → SaysAll forms count so a s1 → SaysAll forms (count + length a) s1 b s2
-    → ((n : ℕ) → SaysAll forms n s2 c s3) → ((n : ℕ) → SaysAll forms n s3 d s4) → ((n : ℕ) → SaysAll forms n s4 e s5) → ((n : ℕ) → SaysAll forms n s5 f last)
-    → SaysAll forms count so (a ++ b ++ c ++ d ++ e ++ f) last
-six-say forms count so s1 s2 s3 s4 s5 last a b c d e f says-a says-b says-c says-d says-e says-f =
-    let ab = both-say forms count so a b s1 s2 says-a says-b in
-    let abc = more-say forms count so (a ++ b) c s2 s3 ab says-c in
-    let abcd = more-say forms count so (a ++ b ++ c) d s3 s4 abc says-d in
-    let abcde = more-say forms count so (a ++ b ++ c ++ d) e s4 s5 abcd says-e in
-    more-say forms count so (a ++ b ++ c ++ d ++ e) f s5 last abcde says-f
+six-say : (count : ℕ) (so s1 s2 s3 s4 s5 last : SoFar) (a b c d e f : List (List ℕ)) → SaysAll count so a s1 → SaysAll (count + length a) s1 b s2
+    → ((n : ℕ) → SaysAll n s2 c s3) → ((n : ℕ) → SaysAll n s3 d s4) → ((n : ℕ) → SaysAll n s4 e s5) → ((n : ℕ) → SaysAll n s5 f last)
+    → SaysAll count so (a ++ b ++ c ++ d ++ e ++ f) last
+six-say count so s1 s2 s3 s4 s5 last a b c d e f says-a says-b says-c says-d says-e says-f =
+    let ab = both-say count so a b s1 s2 says-a says-b in
+    let abc = more-say count so (a ++ b) c s2 s3 ab says-c in
+    let abcd = more-say count so (a ++ b ++ c) d s3 s4 abc says-d in
+    let abcde = more-say count so (a ++ b ++ c ++ d) e s4 s5 abcd says-e in
+    more-say count so (a ++ b ++ c ++ d ++ e) f s5 last abcde says-f
 
 -- what the lines of a scenario say: all of it, and no choices
-record IsSpoken (forms : Forms) (s : Scen) : Type 0 where
+record IsSpoken (s : Scen) : Type 0 where
   last : SoFar
-  says : SaysAll forms 0 nothing_said (scenario_lines s) last
+  says : SaysAll 0 nothing_said (scenario_lines s) last
   before : last.part ≡ part.Settings
   within : are_within last ≡ true
   none : last.choices ≡ []
   scenario : scenario_of last ≡ s
 
 -- what is written of a scenario says it
-spoken : (forms : Forms) (s : Scen) (choices : List Choice) → IsScen s → MayCome forms s choices → IsSpoken forms s
-spoken forms s choices is may =
+spoken : (s : Scen) → IsScen s → IsSpoken s
+spoken s is =
     let format : Format = s.settings.format in
     let s1 : SoFar = begun nothing_said format in
     let s2 : SoFar = with_given s1 (given_of format s.settings) in
     let settings : List (List ℕ) = map line_text (setting_lines s.settings) in
-    let records = records-say forms (1 + length settings) s2 s.settings.file s.records refl (file-most s is) is.records in
+    let records = records-say (1 + length settings) s2 s.settings.file s.records refl (file-most s is) is.records in
     let s3 : SoFar = with_places s2 records.last in
     let s4 : SoFar = with_clt s3 s.clt in
     let s5 : SoFar = with_work_a s4 s.work_a in
@@ -75,13 +73,13 @@ spoken forms s choices is may =
       says = (
         s1,
         (
-          header-written forms 1 nothing_said format refl may.header,
-          six-say forms 1 s1 s2 s3 s4 s5 s6 s7 settings (records_said s.records) (clt_said s.clt) work_a work_b (plan_said s.plan)
-              (settings-say forms 1 s1 s.settings refl (lines-are s.settings is.settings) (λ given. may.images (with_given s1 given))) records.says
-              (λ (n : ℕ). clt-say forms n s3 s.clt refl is.clt is.clt_few)
-              (λ (n : ℕ). work_a-say forms n s4 s.work_a refl is.work_a is.work_a_few (may.work_a s4))
-              (λ (n : ℕ). work_b-say forms n s5 s.work_b refl is.work_b is.work_b_few (may.work_b s5))
-              (λ (n : ℕ). plan-say forms n s6 s.plan refl is.plan is.plan_few (may.plan s6)),
+          header-written 1 nothing_said format refl,
+          six-say 1 s1 s2 s3 s4 s5 s6 s7 settings (records_said s.records) (clt_said s.clt) work_a work_b (plan_said s.plan)
+              (settings-say 1 s1 s.settings refl (lines-are s.settings is.settings)) records.says
+              (λ (n : ℕ). clt-say n s3 s.clt refl is.clt is.clt_few)
+              (λ (n : ℕ). work_a-say n s4 s.work_a refl is.work_a is.work_a_few)
+              (λ (n : ℕ). work_b-say n s5 s.work_b refl is.work_b is.work_b_few)
+              (λ (n : ℕ). plan-say n s6 s.plan refl is.plan is.plan_few),
         ),
       );
       before = refl;
@@ -111,23 +109,22 @@ written-lines s choices report scen are is =
 
 -- What is written of a scenario and its choices is read again as the same, also with a report behind it.
 pub read_again : ReadAgain
-read_again forms s choices report scen are allowed is =
-    let may = may-come forms s choices allowed in
-    let first = spoken forms s choices scen may in
+read_again s choices report scen are is =
+    let first = spoken s scen in
     let count : ℕ = length (scenario_lines s) in
     let last : SoFar = ended first.last (at_lines s choices) in
     let number : 0 + count + 2 ≡ count + 2 = omega arith in
-    let made = choices-say forms (0 + count) first.last choices first.before first.none first.within are may.made in
-    let second : SaysAll forms (0 + count) first.last (choice_lines choices) last =
-    subst (λ (n : ℕ). SaysAll forms (0 + count) first.last (choice_lines choices) (ended first.last (numbered_from n choices))) number made in
-    let whole : SaysAll forms 0 nothing_said (scenario_lines s ++ choice_lines choices) last =
-    both-say forms 0 nothing_said (scenario_lines s) (choice_lines choices) first.last last first.says second in
-    let all : SaysAll forms 0 nothing_said (scenario_lines s ++ choice_lines choices ++ is.lines) last =
-    both-say forms 0 nothing_said (scenario_lines s ++ choice_lines choices) is.lines last last whole
-    (report-says forms (0 + length (scenario_lines s ++ choice_lines choices)) last is.lines refl is.each) in
+    let made = choices-say (0 + count) first.last choices first.before first.none first.within are in
+    let second : SaysAll (0 + count) first.last (choice_lines choices) last =
+    subst (λ (n : ℕ). SaysAll (0 + count) first.last (choice_lines choices) (ended first.last (numbered_from n choices))) number made in
+    let whole : SaysAll 0 nothing_said (scenario_lines s ++ choice_lines choices) last =
+    both-say 0 nothing_said (scenario_lines s) (choice_lines choices) first.last last first.says second in
+    let all : SaysAll 0 nothing_said (scenario_lines s ++ choice_lines choices ++ is.lines) last =
+    both-say 0 nothing_said (scenario_lines s ++ choice_lines choices) is.lines last last whole
+    (report-says (0 + length (scenario_lines s ++ choice_lines choices)) last is.lines refl is.each) in
     record {
       last = last;
-      said = subst (λ (ls : List (List ℕ)). SaysAll forms 0 nothing_said ls last) (sym (written-lines s choices report scen are is)) all;
+      said = subst (λ (ls : List (List ℕ)). SaysAll 0 nothing_said ls last) (sym (written-lines s choices report scen are is)) all;
       whole = refl;
       scenario = sym first.scenario;
       made = refl;

@@ -1,5 +1,5 @@
 -- What is written of the choices says these, each at the number of its line.
-use Rattle.std.proofs.Common.{◌≡◌, ◌≤◌, ◌<◌, ◌+◌, ℕ, suc, Bool, true, IsTrue, if◌then◌else◌, Ok, Err, List, [], ◌∷◌, ◌++◌, length, map, refl, sym, ◌∙◌, ap, arith, subst}
+use Rattle.std.proofs.Common.{◌≡◌, ◌≤◌, ◌<◌, ◌+◌, ℕ, suc, Bool, true, if◌then◌else◌, Ok, Err, List, [], ◌∷◌, ◌++◌, length, map, refl, sym, ◌∙◌, ap, arith, subst}
 use Rattle.std.specs.List.{AllByRecursion}
 use Rattle.std.proofs.lemmas.Bool.{le-leb}
 use Rattle.xrf_text.specs.Text.{words}
@@ -9,16 +9,13 @@ use Rattle.xrf_grammar.specs.declared.reason.Reason.TheVariants.{RrnRange}
 use Rattle.xrf_grammar.specs.LineText.{line_text}
 use Rattle.xrf_grammar.specs.Spelling.{choice_text}
 use Rattle.xrf_setup.specs.Choices.{HasLine}
-use Rattle.xrf_scenario.specs.Built.{allows}
 use Rattle.xrf_scenario.specs.Canonical.{choice_lines, numbered_from, AreChoices}
 use Rattle.xrf_scenario.specs.Reading.{Says, SaysAll}
 use Rattle.xrf_scenario.specs.SoFar.{SoFar}
 use Rattle.xrf_scenario.specs.Taking.{take, with_room, numbered, are_within}
-use Rattle.xrf_scenario.specs.declared.built.Forms.{Forms}
 use Rattle.xrf_scenario.specs.declared.given.Part.TheVariants.{Settings, Making, Whole}
 use Rattle.xrf_scenario.specs.declared.numbered.Numbered.{Numbered}
 use Rattle.xrf_scenario.proofs.StepLaws.{setting-written, choosing-written, both-say, all-at, all-say}
-use Rattle.xrf_scenario.proofs.SettingLaws.{built-allowed}
 use Rattle.xrf_scenario.proofs.WorkLaws.{before-fewer}
 
 -- one choice more has the next number
@@ -47,20 +44,18 @@ choice-taken first number so ws done c at room =
     ∙ ap (λ (cs : List Numbered). Ok (with_choices so cs)) (sym (numbered-more first done c))
 
 -- what is written of some choices says these
-made-say : (forms : Forms) (count : ℕ) (so : SoFar) (choices : List Choice) → so.part ≡ Making → AreChoices choices
-    → ((so : SoFar) → AllByRecursion (λ (c : Choice). IsTrue (allows forms so (Once c))) choices)
-    → SaysAll forms count (with_choices so []) (map choice_text choices) (with_choices so (numbered_from (count + 1) choices))
-made-say forms count so choices part are allowed = all-say forms count choice_text (λ (done : List Choice). with_choices so (numbered_from (count + 1) done)) choices says
+made-say : (count : ℕ) (so : SoFar) (choices : List Choice) → so.part ≡ Making → AreChoices choices
+    → SaysAll count (with_choices so []) (map choice_text choices) (with_choices so (numbered_from (count + 1) choices))
+made-say count so choices part are = all-say count choice_text (λ (done : List Choice). with_choices so (numbered_from (count + 1) done)) choices says
   where
     says : (done : List Choice) (c : Choice) (rest : List Choice) → choices ≡ done ++ c ∷ rest
-        → Says forms (count + length done + 1) (with_choices so (numbered_from (count + 1) done)) (choice_text c) (with_choices so (numbered_from (count + 1) (done ++ c ∷ [])))
+        → Says (count + length done + 1) (with_choices so (numbered_from (count + 1) done)) (choice_text c) (with_choices so (numbered_from (count + 1) (done ++ c ∷ [])))
     says done c rest split =
         let before : SoFar = with_choices so (numbered_from (count + 1) done) in
         let is : HasLine c = all-at HasLine done c rest (subst (AllByRecursion HasLine) split are.each) in
-        let may = all-at (λ (x : Choice). IsTrue (allows forms before (Once x))) done c rest (subst (AllByRecursion (λ (x : Choice). IsTrue (allows forms before (Once x)))) split (allowed before)) in
         let fewer = before-fewer choices done c rest split in
         let few : length choices ≤ 8192 = are.few in
-        choosing-written forms (count + length done + 1) before (Once c) (with_choices so (numbered_from (count + 1) (done ++ c ∷ []))) part is may
+        choosing-written (count + length done + 1) before (Once c) (with_choices so (numbered_from (count + 1) (done ++ c ∷ []))) part is
         (choice-taken (count + 1) (count + length done + 1) so (words (choice_text c)) done c (omega arith) (omega (arith, fewer, few)))
 
 -- what is said to the end
@@ -68,22 +63,21 @@ abbrev pub ended : SoFar → List Numbered → SoFar
 ended so choices = record so { part = Whole; choices = choices }
 
 -- What is written of CHOICES, the choices and END says these, each at the number of its line.
-pub choices-say : (forms : Forms) (count : ℕ) (so : SoFar) (choices : List Choice) → so.part ≡ Settings → so.choices ≡ [] → are_within so ≡ true → AreChoices choices
-    → ((so : SoFar) → AllByRecursion (λ (c : Choice). IsTrue (allows forms so (Once c))) choices)
-    → SaysAll forms count so (choice_lines choices) (ended so (numbered_from (count + 2) choices))
-choices-say forms count so choices part none within are allowed =
+pub choices-say : (count : ℕ) (so : SoFar) (choices : List Choice) → so.part ≡ Settings → so.choices ≡ [] → are_within so ≡ true → AreChoices choices
+    → SaysAll count so (choice_lines choices) (ended so (numbered_from (count + 2) choices))
+choices-say count so choices part none within are =
     let making : SoFar = record so { part = Making } in
     let made : SoFar = with_choices making (numbered_from (count + 1 + 1) choices) in
-    let start : SaysAll forms (count + 1) making (map choice_text choices) made =
-    subst (λ (cs : List Numbered). SaysAll forms (count + 1) (with_choices making cs) (map choice_text choices) made) (sym none) (made-say forms (count + 1) making choices refl are allowed) in
+    let start : SaysAll (count + 1) making (map choice_text choices) made =
+    subst (λ (cs : List Numbered). SaysAll (count + 1) (with_choices making cs) (map choice_text choices) made) (sym none) (made-say (count + 1) making choices refl are) in
     let number : count + 1 + 1 ≡ count + 2 = omega arith in (
       making,
       (
-        setting-written forms (count + 1) so Choices making part tt (built-allowed forms so Choices refl) (ap (λ (t : Bool). if t then Ok making else Err RrnRange) within),
-        both-say forms (count + 1) making (map choice_text choices) (line_text End ∷ []) made (ended so (numbered_from (count + 2) choices)) start (
+        setting-written (count + 1) so Choices making part tt (ap (λ (t : Bool). if t then Ok making else Err RrnRange) within),
+        both-say (count + 1) making (map choice_text choices) (line_text End ∷ []) made (ended so (numbered_from (count + 2) choices)) start (
           ended so (numbered_from (count + 1 + 1) choices),
           (
-            choosing-written forms _ made End (ended so (numbered_from (count + 1 + 1) choices)) refl tt (built-allowed forms made End refl) refl,
+            choosing-written _ made End (ended so (numbered_from (count + 1 + 1) choices)) refl tt refl,
             ap (λ (n : ℕ). ended so (numbered_from n choices)) (sym number),
           ),
         ),

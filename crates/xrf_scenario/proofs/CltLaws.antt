@@ -26,13 +26,11 @@ use Rattle.xrf_text.specs.Text.{is_printable}
 use Rattle.xrf_scenario.specs.Reading.{Says, SaysAll}
 use Rattle.xrf_scenario.specs.SoFar.{SoFar}
 use Rattle.xrf_scenario.specs.Taking.{take, with_room}
-use Rattle.xrf_scenario.specs.declared.built.Forms.{Forms}
 use Rattle.xrf_scenario.specs.declared.given.Part.TheVariants as part
 use Rattle.xrf_scenario.proofs.StepLaws.{all-then, setting-says, all-at, all-say}
 use Rattle.xrf_grammar.proofs.WordLaws.{blank-free, some-word}
 use Rattle.std.proofs.lemmas.Bool.Decides.{nat_tests}
 use Rattle.xrf_scenario.proofs.TextLaws.{all-both}
-use Rattle.xrf_scenario.proofs.SettingLaws.{built-allowed}
 
 -- a kind and its operands are what may stand behind the applid
 is-command : (kind : CltKind) (operands : List (List ℕ)) → AreOperands kind operands → IsCommand (kind_word kind) operands
@@ -140,16 +138,16 @@ kept-taken number so done k is room =
     kept_of applid text = record { applid = applid; text = text }
 
 -- What is written of the command list says its lines.
-pub clt-say : (forms : Forms) (count : ℕ) (so : SoFar) (clt : List Kept) → so.part ≡ part.Settings → AllByRecursion IsKept clt → length clt ≤ 100
-    → SaysAll forms count (with_clt so []) (clt_said clt) (with_clt so clt)
-clt-say forms count so clt part are few = all-say forms count (λ (k : Kept). codes "CLT " ++ kept_text k) (with_clt so) clt says
+pub clt-say : (count : ℕ) (so : SoFar) (clt : List Kept) → so.part ≡ part.Settings → AllByRecursion IsKept clt → length clt ≤ 100
+    → SaysAll count (with_clt so []) (clt_said clt) (with_clt so clt)
+clt-say count so clt part are few = all-say count (λ (k : Kept). codes "CLT " ++ kept_text k) (with_clt so) clt says
   where
     says : (done : List Kept) (k : Kept) (rest : List Kept) → clt ≡ done ++ k ∷ rest
-        → Says forms (count + length done + 1) (with_clt so done) (codes "CLT " ++ kept_text k) (with_clt so (done ++ k ∷ []))
+        → Says (count + length done + 1) (with_clt so done) (codes "CLT " ++ kept_text k) (with_clt so (done ++ k ∷ []))
     says done k rest split =
         let is : IsKept k = all-at IsKept done k rest (subst (AllByRecursion IsKept) split are) in
         let whole : length clt ≡ length (done ++ k ∷ rest) = ap length split in
         let room : length done < 100 = omega (arith, whole, few, length-append done (k ∷ rest)) in
-        setting-says forms (count + length done + 1) (with_clt so done) (codes "CLT " ++ kept_text k) Clt (with_clt so (done ++ k ∷ [])) (kept-plain k is) part
+        setting-says (count + length done + 1) (with_clt so done) (codes "CLT " ++ kept_text k) Clt (with_clt so (done ++ k ∷ [])) (kept-plain k is) part
         (subst (λ (ws : List (List ℕ)). Spells (settings_of so.format) ws Clt) (sym (kept-words k is)) (spells-clt so.format (k.applid ∷ words k.text) is.no_fault))
-        (built-allowed forms (with_clt so done) Clt refl) (kept-taken (count + length done + 1) so done k is room)
+        (kept-taken (count + length done + 1) so done k is room)

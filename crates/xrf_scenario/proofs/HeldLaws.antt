@@ -2,7 +2,6 @@
 use Rattle.std.proofs.Common.{◌≡◌, ◌+◌, ℕ, true, List, [], ◌∷◌, map, Option, Ok, Err, refl, sym, subst}
 use Rattle.std.specs.List.{AllByRecursion}
 use Rattle.xrf_setup.specs.Choices.{HasLine}
-use Rattle.xrf_scenario.specs.Built.{IsBuilt, AreBuilt}
 use Rattle.xrf_scenario.specs.Canonical.{AreChoices}
 use Rattle.xrf_scenario.specs.Held.{Gives, IsBad}
 use Rattle.xrf_scenario.specs.Machine.{read_on, read_whole, step}
@@ -11,21 +10,18 @@ use Rattle.xrf_scenario.specs.Said.{IsSaid}
 use Rattle.xrf_setup.specs.Scenario.{Scen, IsScen}
 use Rattle.xrf_scenario.specs.Settled.{by_number, scenario_of, settled}
 use Rattle.xrf_scenario.specs.SoFar.{SoFar, is_whole}
-use Rattle.xrf_scenario.specs.declared.built.Forms.{Forms}
-use Rattle.xrf_scenario.specs.declared.built.Forms.TheVariants.{Built}
 use Rattle.xrf_scenario.specs.declared.numbered.Numbered.{Numbered}
 use Rattle.xrf_scenario.specs.declared.read_bad.ReadBad.{ReadBad}
 use Rattle.xrf_scenario.specs.declared.read_bad.ReadBad.TheVariants as bad
 use Rattle.xrf_setup.specs.declared.settings.Settings.{Settings}
-use Rattle.xrf_scenario.proofs.BuiltLaws.{built-told}
 use Rattle.xrf_scenario.proofs.ReadingLaws.{found-told, bad-told}
 use Rattle.xrf_scenario.proofs.SaidLaws.{scen-said}
 use Rattle.std.proofs.lemmas.List.{length-map}
 
 -- behind a line that says something reading goes on with what is said then
-pub goes-on : (forms : Forms) (so new : SoFar) (count : ℕ) (line : List ℕ) (lines : List (List ℕ)) → step forms (count + 1) so line ≡ Ok new
-    → read_on forms so count (line ∷ lines) ≡ read_on forms new (count + 1) lines
-goes-on forms so new count line lines e = rw (e, read_on) refl
+pub goes-on : (so new : SoFar) (count : ℕ) (line : List ℕ) (lines : List (List ℕ)) → step (count + 1) so line ≡ Ok new
+    → read_on so count (line ∷ lines) ≡ read_on new (count + 1) lines
+goes-on so new count line lines e = rw (e, read_on) refl
 
 -- the parts of a reading make a scenario
 pub scenario-held : (so : SoFar) (t : Settings) (records : List (ℕ × List ℕ)) (places : List (Option (List ℕ))) → t ≡ settled so.format so.given → records ≡ by_number 1 places
@@ -49,15 +45,11 @@ choices-held so choices same said = subst (λ (cs : List Numbered). AreChoices (
 })
 
 -- what is read is spelled by the text
-pub read-found : (forms : Forms) (text : List ℕ) (so : SoFar) (s : Scen) (choices : List Numbered) → read_whole forms text ≡ Ok so → s ≡ scenario_of so → choices ≡ so.choices → Reads forms text s choices
-read-found forms text so s choices read scenario made =
-    subst (λ (t : Scen). Reads forms text t choices) (sym scenario) (subst (Reads forms text (scenario_of so)) (sym made) (found-told forms text so read))
-
--- what is read of lines that are built is built
-pub read-built : (forms : Forms) (text : List ℕ) (s : Scen) (choices : List Numbered) → Reads forms text s choices → forms ≡ Built → IsBuilt s × AreBuilt (map (λ (n : Numbered). n.choice) choices)
-read-built forms text s choices found built = built-told text s choices (subst (λ (f : Forms). Reads f text s choices) built found)
+pub read-found : (text : List ℕ) (so : SoFar) (s : Scen) (choices : List Numbered) → read_whole text ≡ Ok so → s ≡ scenario_of so → choices ≡ so.choices → Reads text s choices
+read-found text so s choices read scenario made =
+    subst (λ (t : Scen). Reads text t choices) (sym scenario) (subst (Reads text (scenario_of so)) (sym made) (found-told text so read))
 
 -- what is refused has a bad line
-pub read-bad : (forms : Forms) (text : List ℕ) (e : ReadBad) → Gives (Err e) (read_whole forms text) → IsBad forms text e
-read-bad forms text (bad.Bad number reason) told = bad-told forms text (record { line = number; reason = reason }) told
-read-bad forms text bad.NoMemory told = tt
+pub read-bad : (text : List ℕ) (e : ReadBad) → Gives (Err e) (read_whole text) → IsBad text e
+read-bad text (bad.Bad number reason) told = bad-told text (record { line = number; reason = reason }) told
+read-bad text bad.NoMemory told = tt

@@ -3,7 +3,6 @@ pub mod ReadingLaws
 pub mod KeptLaws
 pub mod CltLaws
 pub mod SaidLaws
-pub mod BuiltLaws
 pub mod TakingLaws
 pub mod TextLaws
 pub mod StepLaws
@@ -12,7 +11,6 @@ pub mod SettingLaws
 pub mod RecordLaws
 pub mod WorkLaws
 pub mod ChoiceLaws
-pub mod AllowedLaws
 pub mod PlainLaws
 pub mod CanonLaws
 pub mod HeldLaws

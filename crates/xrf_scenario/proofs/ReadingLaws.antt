@@ -11,102 +11,83 @@ use Rattle.xrf_grammar.specs.declared.line.Line.{Line}
 use Rattle.xrf_grammar.specs.declared.reason.Reason.{Reason}
 use Rattle.xrf_grammar.specs.declared.reason.Reason.TheVariants.{AfterEnd, NoEnd}
 use Rattle.xrf_scenario.proofs.ReasonLaws.{header-found, refused-first, first-refused}
-use Rattle.xrf_scenario.specs.Built.{allows, allows_format}
 use Rattle.xrf_scenario.specs.Lines.{text_lines, is_skipped, is_report, bytes_fault}
-use Rattle.xrf_scenario.specs.Machine.{Fault, read_on, read_whole, if_built, take_line, take_header, take_words, step}
-use Rattle.xrf_scenario.specs.Reading.{begun, SaysIn, SaysThen, Says, SaysAll, Reads, told, HasBadLine, EndsEarly, HasBad, OneReading, NeverBoth, OneFault}
+use Rattle.xrf_scenario.specs.Machine.{Fault, read_on, read_whole, take_line, take_header, take_words, step}
+use Rattle.xrf_scenario.specs.Reading.{begun, SaysIn, SaysThen, Says, SaysAll, Reads, HasBadLine, EndsEarly, HasBad, OneReading, NeverBoth, OneFault}
 use Rattle.xrf_setup.specs.Scenario.{Scen}
 use Rattle.xrf_scenario.specs.Settled.{scenario_of}
 use Rattle.xrf_scenario.specs.SoFar.{SoFar, nothing_said, is_whole}
 use Rattle.xrf_scenario.specs.Taking.{take}
-use Rattle.xrf_scenario.specs.declared.built.Forms.{Forms}
 use Rattle.xrf_scenario.specs.declared.given.Part.{Part}
 use Rattle.xrf_scenario.specs.declared.given.Part.TheVariants.{Start, Settings, Making, Whole}
 use Rattle.xrf_scenario.specs.declared.numbered.Numbered.{Numbered}
 
--- what is allowed and said is said, and what is said was allowed
-if-said : (built : Bool) (said : Result SoFar Reason) (next : SoFar) → if_built built said ≡ Ok next → IsTrue built × (said ≡ Ok next)
-if-said true said next h = (refl, h)
-if-said false (Ok other) next h = absurd (cc)
-if-said false (Err reason) next h = absurd (cc)
+-- a line of some forms that is taken is spelled
+line-taken : (number : ℕ) (so next : SoFar) (ws : List (List ℕ)) (read : Result Line Reason) → take_line number so ws read ≡ Ok next
+    → (line : Line) × ((read ≡ Ok line) × (take number so ws line ≡ Ok next))
+line-taken number so next ws (Ok line) h = (line, (refl, h))
+line-taken number so next ws (Err reason) h = absurd (cc)
 
-said-if : (built : Bool) (said : Result SoFar Reason) (next : SoFar) → IsTrue built → said ≡ Ok next → if_built built said ≡ Ok next
-said-if true said next h e = e
-said-if false said next h e = absurd (cc)
-
--- a line of some forms that is taken is spelled and may come
-line-taken : (forms : Forms) (number : ℕ) (so next : SoFar) (ws : List (List ℕ)) (read : Result Line Reason) → take_line forms number so ws read ≡ Ok next
-    → (line : Line) × ((read ≡ Ok line) × IsTrue (allows forms so line) × (take number so ws line ≡ Ok next))
-line-taken forms number so next ws (Ok line) h = let k = if-said (allows forms so line) (take number so ws line) next h in (line, (refl, k.0, k.1))
-line-taken forms number so next ws (Err reason) h = absurd (cc)
-
-header-taken : (forms : Forms) (so next : SoFar) (read : Result Format Reason) → take_header forms so read ≡ Ok next
-    → (format : Format) × ((read ≡ Ok format) × IsTrue (allows_format forms format) × (next ≡ begun so format))
-header-taken forms so next (Ok format) h =
-    let k = if-said (allows_format forms format) (Ok (begun so format)) next h in
-    let same : next ≡ begun so format = cc in
-    (format, (refl, k.0, same))
-header-taken forms so next (Err reason) h = absurd (cc)
+header-taken : (so next : SoFar) (read : Result Format Reason) → take_header so read ≡ Ok next → (format : Format) × ((read ≡ Ok format) × (next ≡ begun so format))
+header-taken so next (Ok format) h = let same : next ≡ begun so format = cc in (format, (refl, same))
+header-taken so next (Err reason) h = absurd (cc)
 
 -- what is taken in a part says something there
-taken-says : (part : Part) (forms : Forms) (number : ℕ) (so next : SoFar) (ws : List (List ℕ)) → take_words part forms number so ws ≡ Ok next → SaysIn part forms number so ws next
-taken-says Start forms number so next ws h =
-    let k = header-taken forms so next (header_of ws) h in
-    (k.0, (header-found ws k.0 k.1.0, k.1.1, k.1.2))
-taken-says Settings forms number so next ws h =
-    let k = line-taken forms number so next ws (line_of (settings_of so.format) ws) h in
-    (k.0, (line-found (settings_of so.format) ws k.0 k.1.0, k.1.1, k.1.2))
-taken-says Making forms number so next ws h =
-    let k = line-taken forms number so next ws (line_of choices_table ws) h in
-    (k.0, (line-found choices_table ws k.0 k.1.0, k.1.1, k.1.2))
-taken-says Whole forms number so next ws h = absurd (cc)
+taken-says : (part : Part) (number : ℕ) (so next : SoFar) (ws : List (List ℕ)) → take_words part number so ws ≡ Ok next → SaysIn part number so ws next
+taken-says Start number so next ws h =
+    let k = header-taken so next (header_of ws) h in
+    (k.0, (header-found ws k.0 k.1.0, k.1.1))
+taken-says Settings number so next ws h =
+    let k = line-taken number so next ws (line_of (settings_of so.format) ws) h in
+    (k.0, (line-found (settings_of so.format) ws k.0 k.1.0, k.1.1))
+taken-says Making number so next ws h =
+    let k = line-taken number so next ws (line_of choices_table ws) h in
+    (k.0, (line-found choices_table ws k.0 k.1.0, k.1.1))
+taken-says Whole number so next ws h = absurd (cc)
 
 -- and what says something is taken
-says-taken : (part : Part) (forms : Forms) (number : ℕ) (so next : SoFar) (ws : List (List ℕ)) → SaysIn part forms number so ws next → take_words part forms number so ws ≡ Ok next
-says-taken Start forms number so next ws h =
-    ap (λ (w : List (List ℕ)). take_header forms so (header_of w)) h.1.0 ∙ ap (take_header forms so) (header_again h.0) ∙ said-if (allows_format forms h.0) (Ok (begun so h.0)) next h.1.1 (ap (λ (n : SoFar). Ok n) (sym h.1.2))
-says-taken Settings forms number so next ws h =
-    ap (take_line forms number so ws) (line-again (settings_of so.format) ws h.0 (settings-apart so.format) h.1.0) ∙ said-if (allows forms so h.0) (take number so ws h.0) next h.1.1 h.1.2
-says-taken Making forms number so next ws h =
-    ap (take_line forms number so ws) (line-again choices_table ws h.0 choices-apart h.1.0) ∙ said-if (allows forms so h.0) (take number so ws h.0) next h.1.1 h.1.2
-says-taken Whole forms number so next ws h = absurd h
+says-taken : (part : Part) (number : ℕ) (so next : SoFar) (ws : List (List ℕ)) → SaysIn part number so ws next → take_words part number so ws ≡ Ok next
+says-taken Start number so next ws h = ap (λ (w : List (List ℕ)). take_header so (header_of w)) h.1.0 ∙ ap (take_header so) (header_again h.0) ∙ ap (λ (n : SoFar). Ok n) (sym h.1.1)
+says-taken Settings number so next ws h = ap (take_line number so ws) (line-again (settings_of so.format) ws h.0 (settings-apart so.format) h.1.0) ∙ h.1.1
+says-taken Making number so next ws h = ap (take_line number so ws) (line-again choices_table ws h.0 choices-apart h.1.0) ∙ h.1.1
+says-taken Whole number so next ws h = absurd h
 
 -- a step that is taken says something
-pub step-says : (forms : Forms) (number : ℕ) (so next : SoFar) (line : List ℕ) → step forms number so line ≡ Ok next → Says forms number so line next
-step-says forms number so next line h = by (is_skipped line) (is_whole so.part) h
+pub step-says : (number : ℕ) (so next : SoFar) (line : List ℕ) → step number so line ≡ Ok next → Says number so line next
+step-says number so next line h = by (is_skipped line) (is_whole so.part) h
   where
     report : (r : Bool) → ◌≡◌ {A = Result SoFar Reason} (if r then Ok so else Err AfterEnd) (Ok next) → IsTrue r × (next ≡ so)
     report true e = let same : next ≡ so = cc in (refl, same)
     report false e = absurd (cc)
 
-    bytes : (o : Option Reason) → ◌≡◌ {A = Result SoFar Reason} (elim o [ Some reason ↦ Err reason | None ↦ take_words so.part forms number so (words line) ]) (Ok next)
-        → (o ≡ None) × SaysIn so.part forms number so (words line) next
+    bytes : (o : Option Reason) → ◌≡◌ {A = Result SoFar Reason} (elim o [ Some reason ↦ Err reason | None ↦ take_words so.part number so (words line) ]) (Ok next)
+        → (o ≡ None) × SaysIn so.part number so (words line) next
     bytes (Some reason) e = absurd (cc)
-    bytes None e = (refl, taken-says so.part forms number so next (words line) e)
+    bytes None e = (refl, taken-says so.part number so next (words line) e)
 
     by : (skipped ended : Bool) → ◌≡◌ {A = Result SoFar Reason} (if skipped then Ok so else if ended then (if is_report line then Ok so else Err AfterEnd)
-        else elim (bytes_fault line) [ Some reason ↦ Err reason | None ↦ take_words so.part forms number so (words line) ]) (Ok next)
-        → SaysThen skipped ended forms number so line next
+        else elim (bytes_fault line) [ Some reason ↦ Err reason | None ↦ take_words so.part number so (words line) ]) (Ok next)
+        → SaysThen skipped ended number so line next
     by true ended e = let same : next ≡ so = cc in same
     by false true e = report (is_report line) e
     by false false e = bytes (bytes_fault line) e
 
 -- and what says something is a step
-pub says-step : (forms : Forms) (number : ℕ) (so next : SoFar) (line : List ℕ) → Says forms number so line next → step forms number so line ≡ Ok next
-says-step forms number so next line h = by (is_skipped line) (is_whole so.part) h
+pub says-step : (number : ℕ) (so next : SoFar) (line : List ℕ) → Says number so line next → step number so line ≡ Ok next
+says-step number so next line h = by (is_skipped line) (is_whole so.part) h
   where
     report : (r : Bool) → IsTrue r → next ≡ so → ◌≡◌ {A = Result SoFar Reason} (if r then Ok so else Err AfterEnd) (Ok next)
     report true t e = ap (λ (n : SoFar). Ok n) (sym e)
     report false t e = absurd (cc)
 
-    bytes : (o : Option Reason) → o ≡ None → SaysIn so.part forms number so (words line) next
-        → ◌≡◌ {A = Result SoFar Reason} (elim o [ Some reason ↦ Err reason | None ↦ take_words so.part forms number so (words line) ]) (Ok next)
+    bytes : (o : Option Reason) → o ≡ None → SaysIn so.part number so (words line) next
+        → ◌≡◌ {A = Result SoFar Reason} (elim o [ Some reason ↦ Err reason | None ↦ take_words so.part number so (words line) ]) (Ok next)
     bytes (Some reason) e k = absurd (cc)
-    bytes None e k = says-taken so.part forms number so next (words line) k
+    bytes None e k = says-taken so.part number so next (words line) k
 
-    by : (skipped ended : Bool) → SaysThen skipped ended forms number so line next
+    by : (skipped ended : Bool) → SaysThen skipped ended number so line next
         → ◌≡◌ {A = Result SoFar Reason} (if skipped then Ok so else if ended then (if is_report line then Ok so else Err AfterEnd)
-        else elim (bytes_fault line) [ Some reason ↦ Err reason | None ↦ take_words so.part forms number so (words line) ]) (Ok next)
+        else elim (bytes_fault line) [ Some reason ↦ Err reason | None ↦ take_words so.part number so (words line) ]) (Ok next)
     by true ended e = ap (λ (n : SoFar). Ok n) (sym e)
     by false true e = report (is_report line) e.0 e.1
     by false false e = bytes (bytes_fault line) e.0 e.1
@@ -120,131 +101,131 @@ count-more : (count : ℕ) (line : List ℕ) (lines : List (List ℕ)) → count
 count-more count line lines = omega arith
 
 -- reading goes on behind lines that say something
-pub on-behind : (forms : Forms) (count : ℕ) (so last : SoFar) (lines rest : List (List ℕ)) → SaysAll forms count so lines last
-    → read_on forms so count (lines ++ rest) ≡ read_on forms last (count + length lines) rest
-on-behind forms count so last [] rest h =
+pub on-behind : (count : ℕ) (so last : SoFar) (lines rest : List (List ℕ)) → SaysAll count so lines last
+    → read_on so count (lines ++ rest) ≡ read_on last (count + length lines) rest
+on-behind count so last [] rest h =
     let none : count + 0 ≡ count = omega arith in
-    subst (λ (s : SoFar). read_on forms so count rest ≡ read_on forms s (count + 0) rest) (sym h) (ap (λ (n : ℕ). read_on forms so n rest) (sym none))
-on-behind forms count so last (line ∷ lines) rest h =
+    subst (λ (s : SoFar). read_on so count rest ≡ read_on s (count + 0) rest) (sym h) (ap (λ (n : ℕ). read_on so n rest) (sym none))
+on-behind count so last (line ∷ lines) rest h =
     let next = h.0 in
-    let took : step forms (count + 1) so line ≡ Ok next = says-step forms (count + 1) so next line h.1.0 in
-    let here : read_on forms so count (line ∷ lines ++ rest) ≡ read_on forms next (count + 1) (lines ++ rest) = rw (took, read_on) refl in
-    here ∙ on-behind forms (count + 1) next last lines rest h.1.1 ∙ ap (λ (n : ℕ). read_on forms last n rest) (count-more count line lines)
+    let took : step (count + 1) so line ≡ Ok next = says-step (count + 1) so next line h.1.0 in
+    let here : read_on so count (line ∷ lines ++ rest) ≡ read_on next (count + 1) (lines ++ rest) = rw (took, read_on) refl in
+    here ∙ on-behind (count + 1) next last lines rest h.1.1 ∙ ap (λ (n : ℕ). read_on last n rest) (count-more count line lines)
 
 -- lines that are read to the end say something
-record Ended (forms : Forms) (count : ℕ) (so : SoFar) (lines : List (List ℕ)) (last : SoFar) : Type 0 where
-  said : SaysAll forms count so lines last
+record Ended (count : ℕ) (so : SoFar) (lines : List (List ℕ)) (last : SoFar) : Type 0 where
+  said : SaysAll count so lines last
   whole : is_whole last.part ≡ true
 
-ended : (forms : Forms) (count : ℕ) (so last : SoFar) (lines : List (List ℕ)) → read_on forms so count lines ≡ Ok last → Ended forms count so lines last
-ended forms count so last [] h = by (is_whole so.part) refl h
+ended : (count : ℕ) (so last : SoFar) (lines : List (List ℕ)) → read_on so count lines ≡ Ok last → Ended count so lines last
+ended count so last [] h = by (is_whole so.part) refl h
   where
-    by : (b : Bool) → is_whole so.part ≡ b → ◌≡◌ {A = Result SoFar Fault} (if b then Ok so else Err (record { line = max 1 count; reason = NoEnd })) (Ok last) → Ended forms count so [] last
+    by : (b : Bool) → is_whole so.part ≡ b → ◌≡◌ {A = Result SoFar Fault} (if b then Ok so else Err (record { line = max 1 count; reason = NoEnd })) (Ok last) → Ended count so [] last
     by true e k = let same : so ≡ last = cc in record { said = sym same; whole = subst (λ (s : SoFar). is_whole s.part ≡ true) same e }
     by false e k = absurd (cc)
-ended forms count so last (line ∷ lines) h = by (step forms (count + 1) so line) refl h (λ next k. ended forms (count + 1) next last lines k)
+ended count so last (line ∷ lines) h = by (step (count + 1) so line) refl h (λ next k. ended (count + 1) next last lines k)
   where
-    by : (o : Result SoFar Reason) → step forms (count + 1) so line ≡ o
-        → ◌≡◌ {A = Result SoFar Fault} (elim o [ Err reason ↦ Err (record { line = count + 1; reason = told lines reason }) | Ok next ↦ read_on forms next (count + 1) lines ]) (Ok last)
-        → ((next : SoFar) → read_on forms next (count + 1) lines ≡ Ok last → Ended forms (count + 1) next lines last) → Ended forms count so (line ∷ lines) last
+    by : (o : Result SoFar Reason) → step (count + 1) so line ≡ o
+        → ◌≡◌ {A = Result SoFar Fault} (elim o [ Err reason ↦ Err (record { line = count + 1; reason = reason }) | Ok next ↦ read_on next (count + 1) lines ]) (Ok last)
+        → ((next : SoFar) → read_on next (count + 1) lines ≡ Ok last → Ended (count + 1) next lines last) → Ended count so (line ∷ lines) last
     by (Err reason) e k ih = absurd (cc)
     by (Ok next) e k ih =
         let more = ih next k in
-        record { said = (next, (step-says forms (count + 1) so next line e, more.said)); whole = more.whole }
+        record { said = (next, (step-says (count + 1) so next line e, more.said)); whole = more.whole }
 
 -- what is read is spelled
-pub found-told : (forms : Forms) (text : List ℕ) (so : SoFar) → read_whole forms text ≡ Ok so → Reads forms text (scenario_of so) so.choices
-found-told forms text so h =
-    let end = ended forms 0 nothing_said so (text_lines text) h in
+pub found-told : (text : List ℕ) (so : SoFar) → read_whole text ≡ Ok so → Reads text (scenario_of so) so.choices
+found-told text so h =
+    let end = ended 0 nothing_said so (text_lines text) h in
     record { last = so; said = end.said; whole = end.whole; scenario = refl; made = refl }
 
 -- what is spelled is read
-pub spelled-read : (forms : Forms) (text : List ℕ) (s : Scen) (choices : List Numbered) (r : Reads forms text s choices) → read_whole forms text ≡ Ok r.last
-spelled-read forms text s choices r = all (text_lines text) r.said
+pub spelled-read : (text : List ℕ) (s : Scen) (choices : List Numbered) (r : Reads text s choices) → read_whole text ≡ Ok r.last
+spelled-read text s choices r = all (text_lines text) r.said
   where
-    close : (count : ℕ) (last : SoFar) → is_whole last.part ≡ true → read_on forms last count [] ≡ Ok last
+    close : (count : ℕ) (last : SoFar) → is_whole last.part ≡ true → read_on last count [] ≡ Ok last
     close count last e = rw e refl
 
-    all : (lines : List (List ℕ)) → SaysAll forms 0 nothing_said lines r.last → read_on forms nothing_said 0 lines ≡ Ok r.last
-    all lines said = ap (read_on forms nothing_said 0) (sym (append-nil lines)) ∙ on-behind forms 0 nothing_said r.last lines [] said ∙ close (0 + length lines) r.last r.whole
+    all : (lines : List (List ℕ)) → SaysAll 0 nothing_said lines r.last → read_on nothing_said 0 lines ≡ Ok r.last
+    all lines said = ap (read_on nothing_said 0) (sym (append-nil lines)) ∙ on-behind 0 nothing_said r.last lines [] said ∙ close (0 + length lines) r.last r.whole
 
 -- lines that say something, and one more
-pub said-more : (forms : Forms) (count : ℕ) (so mid next : SoFar) (lines : List (List ℕ)) (line : List ℕ) → SaysAll forms count so lines mid → Says forms (count + length lines + 1) mid line next
-    → SaysAll forms count so (lines ++ line ∷ []) next
-said-more forms count so mid next [] line said says =
+pub said-more : (count : ℕ) (so mid next : SoFar) (lines : List (List ℕ)) (line : List ℕ) → SaysAll count so lines mid → Says (count + length lines + 1) mid line next
+    → SaysAll count so (lines ++ line ∷ []) next
+said-more count so mid next [] line said says =
     let none : count + 0 ≡ count = omega arith in
-    let here : Says forms (count + 1) mid line next = subst (λ (n : ℕ). Says forms (n + 1) mid line next) none says in
-    (next, (subst (λ (s : SoFar). Says forms (count + 1) s line next) said here, refl))
-said-more forms count so mid next (first ∷ lines) line said says =
+    let here : Says (count + 1) mid line next = subst (λ (n : ℕ). Says (n + 1) mid line next) none says in
+    (next, (subst (λ (s : SoFar). Says (count + 1) s line next) said here, refl))
+said-more count so mid next (first ∷ lines) line said says =
     let place : count + length (first ∷ lines) ≡ count + 1 + length lines = omega arith in
-    (said.0, (said.1.0, said-more forms (count + 1) said.0 mid next lines line said.1.1 (subst (λ (n : ℕ). Says forms (n + 1) mid line next) place says)))
+    (said.0, (said.1.0, said-more (count + 1) said.0 mid next lines line said.1.1 (subst (λ (n : ℕ). Says (n + 1) mid line next) place says)))
 
-faulty : (forms : Forms) (text : List ℕ) (fault : Fault) (before lines : List (List ℕ)) (so : SoFar) → SaysAll forms 0 nothing_said before so → text_lines text ≡ before ++ lines
-    → read_on forms so (length before) lines ≡ Err fault → HasBad forms text fault.line fault.reason
-faulty forms text fault before [] so said spelled h = by (is_whole so.part) refl h
+faulty : (text : List ℕ) (fault : Fault) (before lines : List (List ℕ)) (so : SoFar) → SaysAll 0 nothing_said before so → text_lines text ≡ before ++ lines
+    → read_on so (length before) lines ≡ Err fault → HasBad text fault.line fault.reason
+faulty text fault before [] so said spelled h = by (is_whole so.part) refl h
   where
     lines : text_lines text ≡ before
     lines = spelled ∙ append-nil before
 
-    early : is_whole so.part ≡ false → EndsEarly forms text (max 1 (length before)) NoEnd
+    early : is_whole so.part ≡ false → EndsEarly text (max 1 (length before)) NoEnd
     early e = record {
       last = so;
-      said = subst (λ (ls : List (List ℕ)). SaysAll forms 0 nothing_said ls so) (sym lines) said;
+      said = subst (λ (ls : List (List ℕ)). SaysAll 0 nothing_said ls so) (sym lines) said;
       early = e;
       place = ap (λ (ls : List (List ℕ)). max 1 (length ls)) (sym lines);
       no_end = refl;
     }
 
     by : (b : Bool) → is_whole so.part ≡ b → ◌≡◌ {A = Result SoFar Fault} (if b then Ok so else Err (record { line = max 1 (length before); reason = NoEnd })) (Err fault)
-        → HasBad forms text fault.line fault.reason
+        → HasBad text fault.line fault.reason
     by true e k = absurd (cc)
     by false e k =
         let found : record { line = max 1 (length before); reason = NoEnd } ≡ fault = cc in
-        subst (λ (f : Fault). HasBad forms text f.line f.reason) found (inr (early e))
-faulty forms text fault before (line ∷ lines) so said spelled h =
-    by (step forms (length before + 1) so line) refl h (λ next e k. faulty forms text fault (before ++ line ∷ []) lines next
-    (said-more forms 0 nothing_said so next before line said (subst (λ (n : ℕ). Says forms (n + 1) so line next) (sym (bare (length before))) (step-says forms (length before + 1) so next line e))) (spelled ∙ sym (append_assoc before (line ∷ []) lines))
-    (ap (λ (n : ℕ). read_on forms next n lines) (length-append before (line ∷ [])) ∙ k))
+        subst (λ (f : Fault). HasBad text f.line f.reason) found (inr (early e))
+faulty text fault before (line ∷ lines) so said spelled h =
+    by (step (length before + 1) so line) refl h (λ next e k. faulty text fault (before ++ line ∷ []) lines next
+    (said-more 0 nothing_said so next before line said (subst (λ (n : ℕ). Says (n + 1) so line next) (sym (bare (length before))) (step-says (length before + 1) so next line e))) (spelled ∙ sym (append_assoc before (line ∷ []) lines))
+    (ap (λ (n : ℕ). read_on next n lines) (length-append before (line ∷ [])) ∙ k))
   where
-    bad : (reason : Reason) → step forms (length before + 1) so line ≡ Err reason → HasBadLine forms text (length before + 1) (told lines reason)
-    bad reason e = record { before = before; bad = line; rest = lines; so = so; first = reason; spelled = spelled; said = said; shown = (refused-first forms (length before + 1) so line reason e).0; is_first = (refused-first forms (length before + 1) so line reason e).1; place = refl; reason_told = refl }
+    bad : (reason : Reason) → step (length before + 1) so line ≡ Err reason → HasBadLine text (length before + 1) reason
+    bad reason e = record { before = before; bad = line; rest = lines; so = so; spelled = spelled; said = said; shown = (refused-first (length before + 1) so line reason e).0; is_first = (refused-first (length before + 1) so line reason e).1; place = refl }
 
-    by : (o : Result SoFar Reason) → step forms (length before + 1) so line ≡ o
-        → ◌≡◌ {A = Result SoFar Fault} (elim o [ Err reason ↦ Err (record { line = length before + 1; reason = told lines reason }) | Ok next ↦ read_on forms next (length before + 1) lines ]) (Err fault)
-        → ((next : SoFar) → step forms (length before + 1) so line ≡ Ok next → read_on forms next (length before + 1) lines ≡ Err fault → HasBad forms text fault.line fault.reason)
-        → HasBad forms text fault.line fault.reason
+    by : (o : Result SoFar Reason) → step (length before + 1) so line ≡ o
+        → ◌≡◌ {A = Result SoFar Fault} (elim o [ Err reason ↦ Err (record { line = length before + 1; reason = reason }) | Ok next ↦ read_on next (length before + 1) lines ]) (Err fault)
+        → ((next : SoFar) → step (length before + 1) so line ≡ Ok next → read_on next (length before + 1) lines ≡ Err fault → HasBad text fault.line fault.reason)
+        → HasBad text fault.line fault.reason
     by (Err reason) e k ih =
-        let found : record { line = length before + 1; reason = told lines reason } ≡ fault = cc in
-        subst (λ (f : Fault). HasBad forms text f.line f.reason) found (inl (bad reason e))
+        let found : record { line = length before + 1; reason = reason } ≡ fault = cc in
+        subst (λ (f : Fault). HasBad text f.line f.reason) found (inl (bad reason e))
     by (Ok next) e k ih = ih next e k
 
 -- a fault is that of the first bad line
-pub bad-told : (forms : Forms) (text : List ℕ) (fault : Fault) → read_whole forms text ≡ Err fault → HasBad forms text fault.line fault.reason
-bad-told forms text fault h = faulty forms text fault [] (text_lines text) nothing_said refl refl h
+pub bad-told : (text : List ℕ) (fault : Fault) → read_whole text ≡ Err fault → HasBad text fault.line fault.reason
+bad-told text fault h = faulty text fault [] (text_lines text) nothing_said refl refl h
 
 abbrev fault_of : ℕ → Reason → Fault
 fault_of number reason = record { line = number; reason = reason }
 
 -- and what has a bad line gives its fault
-pub bad-fault : (forms : Forms) (text : List ℕ) (number : ℕ) (reason : Reason) → HasBad forms text number reason → read_whole forms text ≡ Err (fault_of number reason)
-bad-fault forms text number reason (inl bad) =
-    ap (read_on forms nothing_said 0) bad.spelled ∙ on-behind forms 0 nothing_said bad.so bad.before (bad.bad ∷ bad.rest) bad.said ∙ ap (λ (n : ℕ). read_on forms bad.so n (bad.bad ∷ bad.rest)) (bare (length bad.before)) ∙ off (length bad.before) refl
+pub bad-fault : (text : List ℕ) (number : ℕ) (reason : Reason) → HasBad text number reason → read_whole text ≡ Err (fault_of number reason)
+bad-fault text number reason (inl bad) =
+    ap (read_on nothing_said 0) bad.spelled ∙ on-behind 0 nothing_said bad.so bad.before (bad.bad ∷ bad.rest) bad.said ∙ ap (λ (n : ℕ). read_on bad.so n (bad.bad ∷ bad.rest)) (bare (length bad.before)) ∙ off (length bad.before) refl
   where
-    off : (count : ℕ) → count ≡ length bad.before → read_on forms bad.so count (bad.bad ∷ bad.rest) ≡ Err (fault_of number reason)
+    off : (count : ℕ) → count ≡ length bad.before → read_on bad.so count (bad.bad ∷ bad.rest) ≡ Err (fault_of number reason)
     off count e =
-        let at : step forms (count + 1) bad.so bad.bad ≡ Err bad.first = subst (λ (n : ℕ). step forms (n + 1) bad.so bad.bad ≡ Err bad.first) (sym e) (first-refused forms (length bad.before + 1) bad.so bad.bad bad.first bad.shown bad.is_first) in
+        let at : step (count + 1) bad.so bad.bad ≡ Err reason = subst (λ (n : ℕ). step (n + 1) bad.so bad.bad ≡ Err reason) (sym e) (first-refused (length bad.before + 1) bad.so bad.bad reason bad.shown bad.is_first) in
         let place : count + 1 ≡ number = ap (λ (n : ℕ). n + 1) e ∙ sym bad.place in
-        let here : read_on forms bad.so count (bad.bad ∷ bad.rest) ≡ Err (fault_of (count + 1) (told bad.rest bad.first)) = rw (at, read_on) refl in
-        here ∙ ap (λ (n : ℕ). Err (fault_of n (told bad.rest bad.first))) place ∙ ap (λ (r : Reason). Err (fault_of number r)) (sym bad.reason_told)
-bad-fault forms text number reason (inr early) = all (text_lines text) refl early.said
+        let here : read_on bad.so count (bad.bad ∷ bad.rest) ≡ Err (fault_of (count + 1) reason) = rw (at, read_on) refl in
+        here ∙ ap (λ (n : ℕ). Err (fault_of n reason)) place
+bad-fault text number reason (inr early) = all (text_lines text) refl early.said
   where
-    close : (count : ℕ) → read_on forms early.last count [] ≡ Err (fault_of (max 1 count) NoEnd)
+    close : (count : ℕ) → read_on early.last count [] ≡ Err (fault_of (max 1 count) NoEnd)
     close count = rw early.early refl
 
-    all : (lines : List (List ℕ)) → lines ≡ text_lines text → SaysAll forms 0 nothing_said lines early.last → read_on forms nothing_said 0 lines ≡ Err (fault_of number reason)
+    all : (lines : List (List ℕ)) → lines ≡ text_lines text → SaysAll 0 nothing_said lines early.last → read_on nothing_said 0 lines ≡ Err (fault_of number reason)
     all lines same said =
         let place : max 1 (length lines) ≡ number = ap (λ (ls : List (List ℕ)). max 1 (length ls)) same ∙ sym early.place in
-        ap (read_on forms nothing_said 0) (sym (append-nil lines)) ∙ on-behind forms 0 nothing_said early.last lines [] said ∙ ap (λ (n : ℕ). read_on forms early.last n []) (bare (length lines)) ∙ close (length lines)
+        ap (read_on nothing_said 0) (sym (append-nil lines)) ∙ on-behind 0 nothing_said early.last lines [] said ∙ ap (λ (n : ℕ). read_on early.last n []) (bare (length lines)) ∙ close (length lines)
         ∙ ap (λ (n : ℕ). Err (fault_of n NoEnd)) place ∙ ap (λ (r : Reason). Err (fault_of number r)) (sym early.no_end)
 
 -- one fault is at one line for one reason
@@ -252,16 +233,16 @@ same-fault : (number number' : ℕ) (reason reason' : Reason) → ◌≡◌ {A =
 same-fault number number' reason reason' h = let same : fault_of number reason ≡ fault_of number' reason' = cc in (ap (λ (f : Fault). f.line) same, ap (λ (f : Fault). f.reason) same)
 
 pub one_reading : OneReading
-one_reading forms text s s' choices choices' reads reads' =
-    let both : Ok reads.last ≡ Ok reads'.last = sym (spelled-read forms text s choices reads) ∙ spelled-read forms text s' choices' reads' in
+one_reading text s s' choices choices' reads reads' =
+    let both : Ok reads.last ≡ Ok reads'.last = sym (spelled-read text s choices reads) ∙ spelled-read text s' choices' reads' in
     let same : reads.last ≡ reads'.last = cc in
     (reads.scenario ∙ ap scenario_of same ∙ sym reads'.scenario, reads.made ∙ ap (λ (so : SoFar). so.choices) same ∙ sym reads'.made)
 
 pub never_both : NeverBoth
-never_both forms text s choices number reason reads bad =
-    let clash : Ok reads.last ≡ Err (fault_of number reason) = sym (spelled-read forms text s choices reads) ∙ bad-fault forms text number reason bad in
+never_both text s choices number reason reads bad =
+    let clash : Ok reads.last ≡ Err (fault_of number reason) = sym (spelled-read text s choices reads) ∙ bad-fault text number reason bad in
     cc
 
 pub one_fault : OneFault
-one_fault forms text number number' reason reason' bad bad' =
-    same-fault number number' reason reason' (sym (bad-fault forms text number reason bad) ∙ bad-fault forms text number' reason' bad')
+one_fault text number number' reason reason' bad bad' =
+    same-fault number number' reason reason' (sym (bad-fault text number reason bad) ∙ bad-fault text number' reason' bad')

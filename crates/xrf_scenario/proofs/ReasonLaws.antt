@@ -19,19 +19,16 @@ use Rattle.xrf_setup.specs.declared.format.Format.TheVariants.{One, Two}
 use Rattle.xrf_grammar.specs.declared.line.Line.{Line}
 use Rattle.xrf_grammar.specs.declared.line.Line.TheVariants.{Applid, Takeovr, Adi, Pdi, Log, Ring, File, Pace, Ticks, Images, Level, Xrfsoff, Record, Clt, Work, Plan, Choices, Once, Times, End}
 use Rattle.xrf_grammar.specs.declared.reason.Reason.{Reason}
-use Rattle.xrf_grammar.specs.declared.reason.Reason.TheVariants.{BadByte, LongLine, NoHeader, BadFormat, AfterEnd, PlanOrder, Twice, TooMany, RrnRange, NotBuilt}
+use Rattle.xrf_grammar.specs.declared.reason.Reason.TheVariants.{BadByte, LongLine, NoHeader, BadFormat, AfterEnd, PlanOrder, Twice, TooMany, RrnRange}
 use Rattle.xrf_grammar.proofs.ApartLaws.{are_apart, line-again, settings-apart, choices-apart}
 use Rattle.xrf_grammar.proofs.FaultLaws.{IsLineTold, line-told, form_passes, one-first, words-told, settings-pass, choices-pass}
 use Rattle.xrf_grammar.proofs.FormLaws.{line-found}
-use Rattle.xrf_scenario.specs.Built.{allows, allows_format}
 use Rattle.xrf_scenario.specs.Lines.{is_skipped, is_report, bytes_fault}
 use Rattle.xrf_text.specs.Text.{is_printable}
-use Rattle.xrf_scenario.specs.Reading.{begun}
-use Rattle.xrf_scenario.specs.Machine.{if_built, take_line, take_header, take_words, step}
+use Rattle.xrf_scenario.specs.Machine.{take_line, take_header, take_words, step}
 use Rattle.xrf_scenario.specs.Reasons.{header_words, forms_of, has_forms, SpellsNext, is_given, is_over, falls, is_outside, SpellsBad, HoldsOfText, Holds}
 use Rattle.xrf_scenario.specs.SoFar.{SoFar, is_whole}
 use Rattle.xrf_scenario.specs.Taking.{once, with_room, free_record, last_tick, numbered, are_within, take}
-use Rattle.xrf_scenario.specs.declared.built.Forms.{Forms}
 use Rattle.xrf_scenario.specs.declared.given.Given.{Given}
 use Rattle.xrf_scenario.specs.declared.given.Part.{Part}
 use Rattle.xrf_scenario.specs.declared.given.Part.TheVariants.{Start, Settings, Making, Whole}
@@ -48,13 +45,12 @@ told-of Held Other (Ok next) to back told = λ reason h. told reason (to reason 
 told-of Held Other (Err reason) to back told = record { holds = back reason told.holds; first = λ other h. told.first other (to other h) }
 
 -- the reasons of a line that its words spell, by its tests
-abbrev Tested : Bool → Bool → Bool → Bool → Bool → Reason → Type 0
-Tested fall given over outside barred PlanOrder = fall ≡ true
-Tested fall given over outside barred Twice = given ≡ true
-Tested fall given over outside barred TooMany = over ≡ true
-Tested fall given over outside barred RrnRange = outside ≡ true
-Tested fall given over outside barred NotBuilt = barred ≡ true
-Tested fall given over outside barred reason = ⊥
+abbrev Tested : Bool → Bool → Bool → Bool → Reason → Type 0
+Tested fall given over outside PlanOrder = fall ≡ true
+Tested fall given over outside Twice = given ≡ true
+Tested fall given over outside TooMany = over ≡ true
+Tested fall given over outside RrnRange = outside ≡ true
+Tested fall given over outside reason = ⊥
 
 -- what the tests make of it
 abbrev By : Bool → Bool → Bool → Bool → SoFar → Result SoFar Reason
@@ -65,80 +61,59 @@ By false false false true next = Err RrnRange
 By false false false false next = Ok next
 
 -- with a test that is true and none before it, the reason of the test comes first
-PlanOrder-first : (given over outside barred : Bool) → IsFirst (Tested true given over outside barred) PlanOrder
-PlanOrder-first given over outside barred = record { holds = refl; first = by }
+PlanOrder-first : (given over outside : Bool) → IsFirst (Tested true given over outside) PlanOrder
+PlanOrder-first given over outside = record { holds = refl; first = by }
   where
-    by : (other : Reason) → Tested true given over outside barred other → rank PlanOrder ≤ rank other
+    by : (other : Reason) → Tested true given over outside other → rank PlanOrder ≤ rank other
     by PlanOrder h = omega arith
     by Twice h = omega arith
     by TooMany h = omega arith
     by RrnRange h = omega arith
-    by NotBuilt h = omega arith
     by other h = absurd h
 
-Twice-first : (over outside barred : Bool) → IsFirst (Tested false true over outside barred) Twice
-Twice-first over outside barred = record { holds = refl; first = by }
+Twice-first : (over outside : Bool) → IsFirst (Tested false true over outside) Twice
+Twice-first over outside = record { holds = refl; first = by }
   where
-    by : (other : Reason) → Tested false true over outside barred other → rank Twice ≤ rank other
+    by : (other : Reason) → Tested false true over outside other → rank Twice ≤ rank other
     by PlanOrder h = absurd (cc)
     by Twice h = omega arith
     by TooMany h = omega arith
     by RrnRange h = omega arith
-    by NotBuilt h = omega arith
     by other h = absurd h
 
-TooMany-first : (outside barred : Bool) → IsFirst (Tested false false true outside barred) TooMany
-TooMany-first outside barred = record { holds = refl; first = by }
+TooMany-first : (outside : Bool) → IsFirst (Tested false false true outside) TooMany
+TooMany-first outside = record { holds = refl; first = by }
   where
-    by : (other : Reason) → Tested false false true outside barred other → rank TooMany ≤ rank other
+    by : (other : Reason) → Tested false false true outside other → rank TooMany ≤ rank other
     by PlanOrder h = absurd (cc)
     by Twice h = absurd (cc)
     by TooMany h = omega arith
     by RrnRange h = omega arith
-    by NotBuilt h = omega arith
     by other h = absurd h
 
-RrnRange-first : (barred : Bool) → IsFirst (Tested false false false true barred) RrnRange
-RrnRange-first barred = record { holds = refl; first = by }
+RrnRange-first : IsFirst (Tested false false false true) RrnRange
+RrnRange-first = record { holds = refl; first = by }
   where
-    by : (other : Reason) → Tested false false false true barred other → rank RrnRange ≤ rank other
+    by : (other : Reason) → Tested false false false true other → rank RrnRange ≤ rank other
     by PlanOrder h = absurd (cc)
     by Twice h = absurd (cc)
     by TooMany h = absurd (cc)
     by RrnRange h = omega arith
-    by NotBuilt h = omega arith
     by other h = absurd h
 
-NotBuilt-first : IsFirst (Tested false false false false true) NotBuilt
-NotBuilt-first = record { holds = refl; first = by }
-  where
-    by : (other : Reason) → Tested false false false false true other → rank NotBuilt ≤ rank other
-    by PlanOrder h = absurd (cc)
-    by Twice h = absurd (cc)
-    by TooMany h = absurd (cc)
-    by RrnRange h = absurd (cc)
-    by NotBuilt h = omega arith
-    by other h = absurd h
-
-none-holds : (reason : Reason) → Tested false false false false false reason → ⊥
+none-holds : (reason : Reason) → Tested false false false false reason → ⊥
 none-holds PlanOrder h = cc
 none-holds Twice h = cc
 none-holds TooMany h = cc
 none-holds RrnRange h = cc
-none-holds NotBuilt h = cc
 none-holds reason h = h
 
-by-told : (fall given over outside allowed : Bool) (next : SoFar) → IsToldOf (Tested fall given over outside (not allowed)) (if_built allowed (By fall given over outside next))
-by-told true given over outside true next = PlanOrder-first given over outside false
-by-told true given over outside false next = PlanOrder-first given over outside true
-by-told false true over outside true next = Twice-first over outside false
-by-told false true over outside false next = Twice-first over outside true
-by-told false false true outside true next = TooMany-first outside false
-by-told false false true outside false next = TooMany-first outside true
-by-told false false false true true next = RrnRange-first false
-by-told false false false true false next = RrnRange-first true
-by-told false false false false true next = none-holds
-by-told false false false false false next = NotBuilt-first
+by-told : (fall given over outside : Bool) (next : SoFar) → IsToldOf (Tested fall given over outside) (By fall given over outside next)
+by-told true given over outside next = PlanOrder-first given over outside
+by-told false true over outside next = Twice-first over outside
+by-told false false true outside next = TooMany-first outside
+by-told false false false true next = RrnRange-first
+by-told false false false false next = none-holds
 
 -- a line is taken by its tests
 once-by : {X : Type 0} (o : Option X) (so : SoFar) (g : Given) → (next : SoFar) × (once o so g ≡ By false (is_some o) false false next)
@@ -201,19 +176,17 @@ read-again : (so : SoFar) (text : List ℕ) (l : Line) → IsTested so text → 
 read-again so text l is spelled = line-again (forms_of so.part so.format) (words text) l is.apart spelled
 
 -- reasons of a text where no line is spelled
-unread : (forms : Forms) (so : SoFar) (text : List ℕ) (told other : Reason) → IsTested so text → line_of (forms_of so.part so.format) (words text) ≡ Err told → HoldsOfText forms so text other → ⊥
-unread forms so text told BadByte is e h = let clash : true ≡ false = sym is.bytes ∙ h.1 in cc
-unread forms so text told LongLine is e h = omega (arith, is.short, h.1)
-unread forms so text told NoHeader is e h = is.not_start h.0
-unread forms so text told BadFormat is e h = is.not_start h.0
-unread forms so text told AfterEnd is e h = is.not_whole h.0
-unread forms so text told PlanOrder is e h = let clash : Ok h.line ≡ Err told = sym (read-again so text h.line is h.spelled) ∙ e in cc
-unread forms so text told Twice is e h = let clash : Ok h.line ≡ Err told = sym (read-again so text h.line is h.spelled) ∙ e in cc
-unread forms so text told TooMany is e h = let clash : Ok h.line ≡ Err told = sym (read-again so text h.line is h.spelled) ∙ e in cc
-unread forms so text told RrnRange is e h = let clash : Ok h.line ≡ Err told = sym (read-again so text h.line is h.spelled) ∙ e in cc
-unread forms so text told NotBuilt is e (inl h) = let clash : Ok h.line ≡ Err told = sym (read-again so text h.line is h.spelled) ∙ e in cc
-unread forms so text told NotBuilt is e (inr h) = is.not_start h.at_start
-unread forms so text told other is e h = h
+unread : (so : SoFar) (text : List ℕ) (told other : Reason) → IsTested so text → line_of (forms_of so.part so.format) (words text) ≡ Err told → HoldsOfText so text other → ⊥
+unread so text told BadByte is e h = let clash : true ≡ false = sym is.bytes ∙ h.1 in cc
+unread so text told LongLine is e h = omega (arith, is.short, h.1)
+unread so text told NoHeader is e h = is.not_start h.0
+unread so text told BadFormat is e h = is.not_start h.0
+unread so text told AfterEnd is e h = is.not_whole h.0
+unread so text told PlanOrder is e h = let clash : Ok h.line ≡ Err told = sym (read-again so text h.line is h.spelled) ∙ e in cc
+unread so text told Twice is e h = let clash : Ok h.line ≡ Err told = sym (read-again so text h.line is h.spelled) ∙ e in cc
+unread so text told TooMany is e h = let clash : Ok h.line ≡ Err told = sym (read-again so text h.line is h.spelled) ∙ e in cc
+unread so text told RrnRange is e h = let clash : Ok h.line ≡ Err told = sym (read-again so text h.line is h.spelled) ∙ e in cc
+unread so text told other is e h = h
 
 -- the tests of the one line that the words spell
 same-line : (so : SoFar) (text : List ℕ) (l : Line) (test : Line → Bool) → IsTested so text → line_of (forms_of so.part so.format) (words text) ≡ Ok l → SpellsBad so text test → test l ≡ true
@@ -226,16 +199,16 @@ spelled-bad : (so : SoFar) (text : List ℕ) (l : Line) (test : Line → Bool) �
 spelled-bad so text l test e h = record { line = l; spelled = line-found (forms_of so.part so.format) (words text) l e; bad = h }
 
 -- what is told of a line by the forms of its part
-forms-told : (forms : Forms) (number : ℕ) (so : SoFar) (text : List ℕ) → IsTested so text
-    → IsToldOf (Holds forms so text) (take_line forms number so (words text) (line_of (forms_of so.part so.format) (words text)))
-forms-told forms number so text is = by (line_of (forms_of so.part so.format) (words text)) refl (line-told (forms_of so.part so.format) (words text))
+forms-told : (number : ℕ) (so : SoFar) (text : List ℕ) → IsTested so text
+    → IsToldOf (Holds so text) (take_line number so (words text) (line_of (forms_of so.part so.format) (words text)))
+forms-told number so text is = by (line_of (forms_of so.part so.format) (words text)) refl (line-told (forms_of so.part so.format) (words text))
   where
-    of-words : (told other : Reason) → line_of (forms_of so.part so.format) (words text) ≡ Err told → IsFirst (IsFaultOf (forms_of so.part so.format) (words text)) told → Holds forms so text other → rank told ≤ rank other
-    of-words told other e first (inl h) = absurd (unread forms so text told other is e h)
+    of-words : (told other : Reason) → line_of (forms_of so.part so.format) (words text) ≡ Err told → IsFirst (IsFaultOf (forms_of so.part so.format) (words text)) told → Holds so text other → rank told ≤ rank other
+    of-words told other e first (inl h) = absurd (unread so text told other is e h)
     of-words told other e first (inr h) = first.first other h.1
 
     to : (l : Line) → line_of (forms_of so.part so.format) (words text) ≡ Ok l → ((reason : Reason) → IsFaultOf (forms_of so.part so.format) (words text) reason → ⊥)
-        → (reason : Reason) → Holds forms so text reason → Tested (falls so l) (is_given so l) (is_over so l) (is_outside so l) (not (allows forms so l)) reason
+        → (reason : Reason) → Holds so text reason → Tested (falls so l) (is_given so l) (is_over so l) (is_outside so l) reason
     to l e none reason (inr h) = absurd (none reason h.1)
     to l e none BadByte (inl h) = let clash : true ≡ false = sym is.bytes ∙ h.1 in absurd (cc)
     to l e none LongLine (inl h) = absurd (omega (arith, is.short, h.1))
@@ -246,28 +219,23 @@ forms-told forms number so text is = by (line_of (forms_of so.part so.format) (w
     to l e none Twice (inl h) = same-line so text l (is_given so) is e h
     to l e none TooMany (inl h) = same-line so text l (is_over so) is e h
     to l e none RrnRange (inl h) = same-line so text l (is_outside so) is e h
-    to l e none NotBuilt (inl (inl h)) = same-line so text l (λ k. not (allows forms so k)) is e h
-    to l e none NotBuilt (inl (inr h)) = absurd (is.not_start h.at_start)
     to l e none reason (inl h) = absurd h
 
     back : (l : Line) → line_of (forms_of so.part so.format) (words text) ≡ Ok l
-        → (reason : Reason) → Tested (falls so l) (is_given so l) (is_over so l) (is_outside so l) (not (allows forms so l)) reason → Holds forms so text reason
+        → (reason : Reason) → Tested (falls so l) (is_given so l) (is_over so l) (is_outside so l) reason → Holds so text reason
     back l e PlanOrder h = inl (spelled-bad so text l (falls so) e h)
     back l e Twice h = inl (spelled-bad so text l (is_given so) e h)
     back l e TooMany h = inl (spelled-bad so text l (is_over so) e h)
     back l e RrnRange h = inl (spelled-bad so text l (is_outside so) e h)
-    back l e NotBuilt h = inl (inl (spelled-bad so text l (λ k. not (allows forms so k)) e h))
     back l e reason h = absurd h
 
     by : (r : Result Line Reason) → line_of (forms_of so.part so.format) (words text) ≡ r → IsLineTold (IsFaultOf (forms_of so.part so.format) (words text)) r
-        → IsToldOf (Holds forms so text) (take_line forms number so (words text) r)
+        → IsToldOf (Holds so text) (take_line number so (words text) r)
     by (Err told) e first = record { holds = inr (is.has, first.holds); first = λ other h. of-words told other e first h }
     by (Ok l) e none =
         let made = take-by number so (words text) l in
-        told-of (Holds forms so text) (Tested (falls so l) (is_given so l) (is_over so l) (is_outside so l) (not (allows forms so l)))
-        (if_built (allows forms so l) (take number so (words text) l)) (to l e none) (back l e)
-        (subst (λ (r : Result SoFar Reason). IsToldOf (Tested (falls so l) (is_given so l) (is_over so l) (is_outside so l) (not (allows forms so l))) (if_built (allows forms so l) r))
-        (sym made.1) (by-told (falls so l) (is_given so l) (is_over so l) (is_outside so l) (allows forms so l) made.0))
+        told-of (Holds so text) (Tested (falls so l) (is_given so l) (is_over so l) (is_outside so l)) (take number so (words text) l) (to l e none) (back l e)
+        (subst (IsToldOf (Tested (falls so l) (is_given so l) (is_over so l) (is_outside so l))) (sym made.1) (by-told (falls so l) (is_given so l) (is_over so l) (is_outside so l) made.0))
 
 -- no words are spelled by no forms
 no-forms : (so : SoFar) (text : List ℕ) (l : Line) → forms_of so.part so.format ≡ [] → SpellsNext so text l → ⊥
@@ -299,71 +267,49 @@ header-first : (format : Format) → first (header_words format) ≡ codes "XRF"
 header-first One = refl
 header-first Two = refl
 
-one-format : (format other : Format) → header_words format ≡ header_words other → format ≡ other
-one-format One One e = refl
-one-format Two Two e = refl
-one-format One Two e = let clash : Ok One ≡ Ok Two = ap header_of e in absurd (cc)
-one-format Two One e = let clash : Ok Two ≡ Ok One = ap header_of e in absurd (cc)
-
 -- the reasons of a first line, by its words
-abbrev OfHeader : Forms → List (List ℕ) → Reason → Type 0
-OfHeader forms ws NoHeader = first ws ≢ codes "XRF"
-OfHeader forms ws BadFormat = (format : Format) → ws ≢ header_words format
-OfHeader forms ws NotBuilt = (format : Format) × ((ws ≡ header_words format) × (allows_format forms format ≡ false))
-OfHeader forms ws reason = ⊥
+abbrev OfHeader : List (List ℕ) → Reason → Type 0
+OfHeader ws NoHeader = first ws ≢ codes "XRF"
+OfHeader ws BadFormat = (format : Format) → ws ≢ header_words format
+OfHeader ws reason = ⊥
 
--- a header that is read, and whether its format is built
-read-header : (forms : Forms) (so : SoFar) (ws : List (List ℕ)) (format : Format) → ws ≡ header_words format → IsToldOf (OfHeader forms ws) (take_header forms so (Ok format))
-read-header forms so ws format is = by (allows_format forms format) refl
+-- a header that is read
+read-header : (so : SoFar) (ws : List (List ℕ)) (format : Format) → ws ≡ header_words format → IsToldOf (OfHeader ws) (take_header so (Ok format))
+read-header so ws format is = none
   where
-    none : (reason : Reason) → allows_format forms format ≡ true → OfHeader forms ws reason → ⊥
-    none NoHeader e h = h (ap first is ∙ header-first format)
-    none BadFormat e h = h format is
-    none NotBuilt e h =
-        let same : format ≡ h.0 = one-format format h.0 (sym is ∙ h.1.0) in
-        let clash : true ≡ false = sym e ∙ ap (allows_format forms) same ∙ h.1.1 in cc
-    none reason e h = h
-
-    last : allows_format forms format ≡ false → (other : Reason) → OfHeader forms ws other → rank NotBuilt ≤ rank other
-    last e NoHeader h = absurd (h (ap first is ∙ header-first format))
-    last e BadFormat h = absurd (h format is)
-    last e NotBuilt h = omega arith
-    last e other h = absurd h
-
-    by : (b : Bool) → allows_format forms format ≡ b → IsToldOf (OfHeader forms ws) (if_built b (Ok (begun so format)))
-    by true e = λ reason h. none reason e h
-    by false e = record { holds = (format, (is, e)); first = last e }
+    none : (reason : Reason) → OfHeader ws reason → ⊥
+    none NoHeader h = h (ap first is ∙ header-first format)
+    none BadFormat h = h format is
+    none reason h = h
 
 -- a first line that is no header
-no-header : (forms : Forms) (ws : List (List ℕ)) → first ws ≢ codes "XRF" → IsFirst (OfHeader forms ws) NoHeader
-no-header forms ws other = record { holds = other; first = by }
+no-header : (ws : List (List ℕ)) → first ws ≢ codes "XRF" → IsFirst (OfHeader ws) NoHeader
+no-header ws other = record { holds = other; first = by }
   where
-    by : (reason : Reason) → OfHeader forms ws reason → rank NoHeader ≤ rank reason
+    by : (reason : Reason) → OfHeader ws reason → rank NoHeader ≤ rank reason
     by NoHeader h = omega arith
     by BadFormat h = omega arith
-    by NotBuilt h = omega arith
     by reason h = absurd h
 
-bad-format : (forms : Forms) (ws : List (List ℕ)) → first ws ≡ codes "XRF" → ((format : Format) → ws ≢ header_words format) → IsFirst (OfHeader forms ws) BadFormat
-bad-format forms ws is none = record { holds = none; first = by }
+bad-format : (ws : List (List ℕ)) → first ws ≡ codes "XRF" → ((format : Format) → ws ≢ header_words format) → IsFirst (OfHeader ws) BadFormat
+bad-format ws is none = record { holds = none; first = by }
   where
-    by : (reason : Reason) → OfHeader forms ws reason → rank BadFormat ≤ rank reason
+    by : (reason : Reason) → OfHeader ws reason → rank BadFormat ≤ rank reason
     by NoHeader h = absurd (h is)
     by BadFormat h = omega arith
-    by NotBuilt h = omega arith
     by reason h = absurd h
 
-header-told : (forms : Forms) (so : SoFar) (ws : List (List ℕ)) → IsToldOf (OfHeader forms ws) (take_header forms so (header_of ws))
-header-told forms so ws = by (bytes_eq (first ws) (codes "XRF")) (are_two ws) (bytes_eq (second ws) (codes "1")) (bytes_eq (second ws) (codes "2")) refl refl refl refl
+header-told : (so : SoFar) (ws : List (List ℕ)) → IsToldOf (OfHeader ws) (take_header so (header_of ws))
+header-told so ws = by (bytes_eq (first ws) (codes "XRF")) (are_two ws) (bytes_eq (second ws) (codes "1")) (bytes_eq (second ws) (codes "2")) refl refl refl refl
   where
     by : (xrf two one-word two-word : Bool) → bytes_eq (first ws) (codes "XRF") ≡ xrf → are_two ws ≡ two → bytes_eq (second ws) (codes "1") ≡ one-word → bytes_eq (second ws) (codes "2") ≡ two-word
-        → IsToldOf (OfHeader forms ws) (take_header forms so (if not xrf then Err NoHeader else if not two then Err BadFormat else if one-word then Ok One else if two-word then Ok Two else Err BadFormat))
-    by false two a b e f g h = no-header forms ws (differs (first ws) (codes "XRF") e)
-    by true false a b e f g h = bad-format forms ws (equal (first ws) (codes "XRF") e) (λ format. not-two ws format f)
-    by true true true b e f g h = read-header forms so ws One (header-two ws (codes "XRF") (codes "1") f (equal (first ws) (codes "XRF") e) (equal (second ws) (codes "1") g))
-    by true true false true e f g h = read-header forms so ws Two (header-two ws (codes "XRF") (codes "2") f (equal (first ws) (codes "XRF") e) (equal (second ws) (codes "2") h))
+        → IsToldOf (OfHeader ws) (take_header so (if not xrf then Err NoHeader else if not two then Err BadFormat else if one-word then Ok One else if two-word then Ok Two else Err BadFormat))
+    by false two a b e f g h = no-header ws (differs (first ws) (codes "XRF") e)
+    by true false a b e f g h = bad-format ws (equal (first ws) (codes "XRF") e) (λ format. not-two ws format f)
+    by true true true b e f g h = read-header so ws One (header-two ws (codes "XRF") (codes "1") f (equal (first ws) (codes "XRF") e) (equal (second ws) (codes "1") g))
+    by true true false true e f g h = read-header so ws Two (header-two ws (codes "XRF") (codes "2") f (equal (first ws) (codes "XRF") e) (equal (second ws) (codes "2") h))
     by true true false false e f g h =
-        bad-format forms ws (equal (first ws) (codes "XRF") e) (λ format. not-second ws format (differs (second ws) (codes "1") g) (differs (second ws) (codes "2") h))
+        bad-format ws (equal (first ws) (codes "XRF") e) (λ format. not-second ws format (differs (second ws) (codes "1") g) (differs (second ws) (codes "2") h))
 
 -- the words of a header that is read
 pub header-found : (ws : List (List ℕ)) (format : Format) → header_of ws ≡ Ok format → ws ≡ header_words format
@@ -382,14 +328,14 @@ header-found ws format h = by (bytes_eq (first ws) (codes "XRF")) (are_two ws) (
     by true true false false e f g i k = absurd (cc)
 
 -- what is told of a first line
-start-told : (forms : Forms) (so : SoFar) (text : List ℕ) → so.part ≡ Start → list_all is_printable text ≡ true → length text ≤ 300
-    → IsToldOf (Holds forms so text) (take_header forms so (header_of (words text)))
-start-told forms so text here bytes short = told-of (Holds forms so text) (OfHeader forms (words text)) (take_header forms so (header_of (words text))) to back (header-told forms so (words text))
+start-told : (so : SoFar) (text : List ℕ) → so.part ≡ Start → list_all is_printable text ≡ true → length text ≤ 300
+    → IsToldOf (Holds so text) (take_header so (header_of (words text)))
+start-told so text here bytes short = told-of (Holds so text) (OfHeader (words text)) (take_header so (header_of (words text))) to back (header-told so (words text))
   where
     none : forms_of so.part so.format ≡ []
     none = ap (λ (p : Part). forms_of p so.format) here
 
-    to : (reason : Reason) → Holds forms so text reason → OfHeader forms (words text) reason
+    to : (reason : Reason) → Holds so text reason → OfHeader (words text) reason
     to reason (inr h) = let clash : false ≡ true = sym (ap has_forms here) ∙ h.0 in absurd (cc)
     to BadByte (inl h) = let clash : true ≡ false = sym bytes ∙ h.1 in absurd (cc)
     to LongLine (inl h) = absurd (omega (arith, short, h.1))
@@ -400,24 +346,21 @@ start-told forms so text here bytes short = told-of (Holds forms so text) (OfHea
     to Twice (inl h) = absurd (no-forms so text h.line none h.spelled)
     to TooMany (inl h) = absurd (no-forms so text h.line none h.spelled)
     to RrnRange (inl h) = absurd (no-forms so text h.line none h.spelled)
-    to NotBuilt (inl (inl h)) = absurd (no-forms so text h.line none h.spelled)
-    to NotBuilt (inl (inr h)) = (h.format, (h.header, h.not_built))
     to reason (inl h) = absurd h
 
-    back : (reason : Reason) → OfHeader forms (words text) reason → Holds forms so text reason
+    back : (reason : Reason) → OfHeader (words text) reason → Holds so text reason
     back NoHeader h = inl (here, h)
     back BadFormat h = inl (here, h)
-    back NotBuilt h = inl (inr (record { format = h.0; at_start = here; header = h.1.0; not_built = h.1.1 }))
     back reason h = absurd h
 
 -- what is told of a line behind END
-whole-told : (forms : Forms) (so : SoFar) (text : List ℕ) → so.part ≡ Whole → IsToldOf (Holds forms so text) (if is_report text then Ok so else Err AfterEnd)
-whole-told forms so text here = by (is_report text) refl
+whole-told : (so : SoFar) (text : List ℕ) → so.part ≡ Whole → IsToldOf (Holds so text) (if is_report text then Ok so else Err AfterEnd)
+whole-told so text here = by (is_report text) refl
   where
     none : forms_of so.part so.format ≡ []
     none = ap (λ (p : Part). forms_of p so.format) here
 
-    only : (reason : Reason) → Holds forms so text reason → (reason ≡ AfterEnd) × (is_report text ≡ false)
+    only : (reason : Reason) → Holds so text reason → (reason ≡ AfterEnd) × (is_report text ≡ false)
     only reason (inr h) = let clash : false ≡ true = sym (ap has_forms here) ∙ h.0 in absurd (cc)
     only BadByte (inl h) = let clash : true ≡ false = sym (ap is_whole here) ∙ h.0 in absurd (cc)
     only LongLine (inl h) = let clash : true ≡ false = sym (ap is_whole here) ∙ h.0 in absurd (cc)
@@ -428,20 +371,18 @@ whole-told forms so text here = by (is_report text) refl
     only Twice (inl h) = absurd (no-forms so text h.line none h.spelled)
     only TooMany (inl h) = absurd (no-forms so text h.line none h.spelled)
     only RrnRange (inl h) = absurd (no-forms so text h.line none h.spelled)
-    only NotBuilt (inl (inl h)) = absurd (no-forms so text h.line none h.spelled)
-    only NotBuilt (inl (inr h)) = let clash : Whole ≡ Start = sym here ∙ h.at_start in absurd (cc)
     only reason (inl h) = absurd h
 
-    by : (b : Bool) → is_report text ≡ b → IsToldOf (Holds forms so text) (if b then Ok so else Err AfterEnd)
+    by : (b : Bool) → is_report text ≡ b → IsToldOf (Holds so text) (if b then Ok so else Err AfterEnd)
     by true e = λ reason h. let clash : true ≡ false = sym e ∙ (only reason h).1 in absurd (cc)
     by false e = record { holds = inl (here, e); first = λ other h. let same : rank AfterEnd ≡ rank other = ap rank (sym (only other h).0) in omega (arith, same) }
 
 -- a byte fault comes before all reasons behind it
-bytes-first : (forms : Forms) (so : SoFar) (text : List ℕ) → so.part ≢ Whole → is_whole so.part ≡ false → list_all form_passes (forms_of so.part so.format) ≡ true
-    → (reason : Reason) → bytes_fault text ≡ Some reason → IsFirst (Holds forms so text) reason
-bytes-first forms so text not_whole before passes reason fault = by (list_all is_printable text) (nat_lt 300 (length text)) refl refl fault
+bytes-first : (so : SoFar) (text : List ℕ) → so.part ≢ Whole → is_whole so.part ≡ false → list_all form_passes (forms_of so.part so.format) ≡ true
+    → (reason : Reason) → bytes_fault text ≡ Some reason → IsFirst (Holds so text) reason
+bytes-first so text not_whole before passes reason fault = by (list_all is_printable text) (nat_lt 300 (length text)) refl refl fault
   where
-    behind-long : (other : Reason) → (list_all is_printable text ≡ true ⊎ (other ≡ BadByte → ⊥)) → Holds forms so text other → 2 ≤ rank other
+    behind-long : (other : Reason) → (list_all is_printable text ≡ true ⊎ (other ≡ BadByte → ⊥)) → Holds so text other → 2 ≤ rank other
     behind-long other ok (inr h) = let of : 7 ≤ rank other = (words-told (forms_of so.part so.format) (words text) other passes h.1).0 in omega (arith, of)
     behind-long BadByte (inl all) (inl h) = let clash : true ≡ false = sym all ∙ h.1 in absurd (cc)
     behind-long BadByte (inr other) (inl h) = absurd (other refl)
@@ -453,27 +394,26 @@ bytes-first forms so text not_whole before passes reason fault = by (list_all is
     behind-long Twice ok (inl h) = omega arith
     behind-long TooMany ok (inl h) = omega arith
     behind-long RrnRange ok (inl h) = omega arith
-    behind-long NotBuilt ok (inl h) = omega arith
     behind-long other ok (inl h) = absurd h
 
-    behind-byte : (other : Reason) → Holds forms so text other → 1 ≤ rank other
+    behind-byte : (other : Reason) → Holds so text other → 1 ≤ rank other
     behind-byte BadByte h = omega arith
     behind-byte other h = let low : 2 ≤ rank other = behind-long other (inr (λ (e : other ≡ BadByte). cc)) h in omega (arith, low)
 
     by : (all long : Bool) → list_all is_printable text ≡ all → nat_lt 300 (length text) ≡ long
-        → ◌≡◌ {A = Option Reason} (if not all then Some BadByte else if long then Some LongLine else None) (Some reason) → IsFirst (Holds forms so text) reason
+        → ◌≡◌ {A = Option Reason} (if not all then Some BadByte else if long then Some LongLine else None) (Some reason) → IsFirst (Holds so text) reason
     by false long e l k =
         let same : BadByte ≡ reason = cc in
-        subst (IsFirst (Holds forms so text)) same (record { holds = inl (before, e); first = behind-byte })
+        subst (IsFirst (Holds so text)) same (record { holds = inl (before, e); first = behind-byte })
     by true true e l k =
         let same : LongLine ≡ reason = cc in
-        subst (IsFirst (Holds forms so text)) same (record { holds = inl (before, ltb-true 300 (length text) l); first = λ other h. behind-long other (inl e) h })
+        subst (IsFirst (Holds so text)) same (record { holds = inl (before, ltb-true 300 (length text) l); first = λ other h. behind-long other (inl e) h })
     by true false e l k = absurd (cc)
 
 -- What is told of a line that is not skipped: the first of the reasons that hold of it, in their
 -- order, and where none holds what is said next.
-pub step-told : (forms : Forms) (number : ℕ) (so : SoFar) (text : List ℕ) → is_skipped text ≡ false → IsToldOf (Holds forms so text) (step forms number so text)
-step-told forms number so text shown = rw shown (by so.part refl)
+pub step-told : (number : ℕ) (so : SoFar) (text : List ℕ) → is_skipped text ≡ false → IsToldOf (Holds so text) (step number so text)
+step-told number so text shown = rw shown (by so.part refl)
   where
     tested : (part : Part) → so.part ≡ part → has_forms part ≡ true → are_apart (forms_of part so.format) ≡ true → bytes_fault text ≡ None → IsTested so text
     tested part here has apart plain = record {
@@ -486,43 +426,43 @@ step-told forms number so text shown = rw shown (by so.part refl)
     }
 
     of-forms : (part : Part) → so.part ≡ part → has_forms part ≡ true → are_apart (forms_of part so.format) ≡ true → bytes_fault text ≡ None
-        → IsToldOf (Holds forms so text) (take_line forms number so (words text) (line_of (forms_of part so.format) (words text)))
+        → IsToldOf (Holds so text) (take_line number so (words text) (line_of (forms_of part so.format) (words text)))
     of-forms part here has apart plain =
-        subst (λ (p : Part). IsToldOf (Holds forms so text) (take_line forms number so (words text) (line_of (forms_of p so.format) (words text)))) here
-        (forms-told forms number so text (tested part here has apart plain))
+        subst (λ (p : Part). IsToldOf (Holds so text) (take_line number so (words text) (line_of (forms_of p so.format) (words text)))) here
+        (forms-told number so text (tested part here has apart plain))
 
     passed : (part : Part) → so.part ≡ part → list_all form_passes (forms_of part so.format) ≡ true → list_all form_passes (forms_of so.part so.format) ≡ true
     passed part here all = subst (λ (p : Part). list_all form_passes (forms_of p so.format) ≡ true) (sym here) all
 
     bytes : (part : Part) → so.part ≡ part → is_whole part ≡ false → list_all form_passes (forms_of part so.format) ≡ true → (taken : Result SoFar Reason)
-        → (bytes_fault text ≡ None → IsToldOf (Holds forms so text) taken) → (o : Option Reason) → bytes_fault text ≡ o
-        → IsToldOf (Holds forms so text) (elim o [ Some reason ↦ Err reason | None ↦ taken ])
+        → (bytes_fault text ≡ None → IsToldOf (Holds so text) taken) → (o : Option Reason) → bytes_fault text ≡ o
+        → IsToldOf (Holds so text) (elim o [ Some reason ↦ Err reason | None ↦ taken ])
     bytes part here before passes taken told (Some reason) e =
-        bytes-first forms so text (λ w. let clash : true ≡ false = sym (ap is_whole (sym here ∙ w)) ∙ before in cc) (ap is_whole here ∙ before) (passed part here passes) reason e
+        bytes-first so text (λ w. let clash : true ≡ false = sym (ap is_whole (sym here ∙ w)) ∙ before in cc) (ap is_whole here ∙ before) (passed part here passes) reason e
     bytes part here before passes taken told None e = told e
 
-    by : (part : Part) → so.part ≡ part → IsToldOf (Holds forms so text) (if is_whole part then (if is_report text then Ok so else Err AfterEnd)
-        else elim (bytes_fault text) [ Some reason ↦ Err reason | None ↦ take_words part forms number so (words text) ])
-    by Start here = bytes Start here refl refl (take_words Start forms number so (words text)) (λ plain. start-told forms so text here (bytes-kept text plain).0 (bytes-kept text plain).1) (bytes_fault text) refl
+    by : (part : Part) → so.part ≡ part → IsToldOf (Holds so text) (if is_whole part then (if is_report text then Ok so else Err AfterEnd)
+        else elim (bytes_fault text) [ Some reason ↦ Err reason | None ↦ take_words part number so (words text) ])
+    by Start here = bytes Start here refl refl (take_words Start number so (words text)) (λ plain. start-told so text here (bytes-kept text plain).0 (bytes-kept text plain).1) (bytes_fault text) refl
     by Settings here =
-        bytes Settings here refl (settings-pass so.format) (take_words Settings forms number so (words text)) (of-forms Settings here refl (settings-apart so.format)) (bytes_fault text) refl
-    by Making here = bytes Making here refl choices-pass (take_words Making forms number so (words text)) (of-forms Making here refl choices-apart) (bytes_fault text) refl
-    by Whole here = whole-told forms so text here
+        bytes Settings here refl (settings-pass so.format) (take_words Settings number so (words text)) (of-forms Settings here refl (settings-apart so.format)) (bytes_fault text) refl
+    by Making here = bytes Making here refl choices-pass (take_words Making number so (words text)) (of-forms Making here refl choices-apart) (bytes_fault text) refl
+    by Whole here = whole-told so text here
 
 -- a step that is refused is refused for the first reason of a line that is not skipped
-pub refused-first : (forms : Forms) (number : ℕ) (so : SoFar) (text : List ℕ) (reason : Reason) → step forms number so text ≡ Err reason
-    → (is_skipped text ≡ false) × IsFirst (Holds forms so text) reason
-refused-first forms number so text reason e = by (is_skipped text) refl
+pub refused-first : (number : ℕ) (so : SoFar) (text : List ℕ) (reason : Reason) → step number so text ≡ Err reason
+    → (is_skipped text ≡ false) × IsFirst (Holds so text) reason
+refused-first number so text reason e = by (is_skipped text) refl
   where
-    by : (b : Bool) → is_skipped text ≡ b → (is_skipped text ≡ false) × IsFirst (Holds forms so text) reason
-    by false shown = (shown, subst (IsToldOf (Holds forms so text)) e (step-told forms number so text shown))
-    by true skipped = let taken : step forms number so text ≡ Ok so = rw skipped refl in let clash : Ok so ≡ Err reason = sym taken ∙ e in absurd (cc)
+    by : (b : Bool) → is_skipped text ≡ b → (is_skipped text ≡ false) × IsFirst (Holds so text) reason
+    by false shown = (shown, subst (IsToldOf (Holds so text)) e (step-told number so text shown))
+    by true skipped = let taken : step number so text ≡ Ok so = rw skipped refl in let clash : Ok so ≡ Err reason = sym taken ∙ e in absurd (cc)
 
 -- and one for which a reason is the first is refused for it
-pub first-refused : (forms : Forms) (number : ℕ) (so : SoFar) (text : List ℕ) (reason : Reason) → is_skipped text ≡ false → IsFirst (Holds forms so text) reason
-    → step forms number so text ≡ Err reason
-first-refused forms number so text reason shown first = by (step forms number so text) refl (step-told forms number so text shown)
+pub first-refused : (number : ℕ) (so : SoFar) (text : List ℕ) (reason : Reason) → is_skipped text ≡ false → IsFirst (Holds so text) reason
+    → step number so text ≡ Err reason
+first-refused number so text reason shown first = by (step number so text) refl (step-told number so text shown)
   where
-    by : (r : Result SoFar Reason) → step forms number so text ≡ r → IsToldOf (Holds forms so text) r → step forms number so text ≡ Err reason
+    by : (r : Result SoFar Reason) → step number so text ≡ r → IsToldOf (Holds so text) r → step number so text ≡ Err reason
     by (Ok next) e none = absurd (none reason first.holds)
-    by (Err other) e told = e ∙ ap (λ (x : Reason). Err x) (one-first (Holds forms so text) other reason told first)
+    by (Err other) e told = e ∙ ap (λ (x : Reason). Err x) (one-first (Holds so text) other reason told first)

@@ -11,10 +11,8 @@ use Rattle.xrf_setup.specs.Scenario.{AreRecords}
 use Rattle.xrf_scenario.specs.Settled.{by_number}
 use Rattle.xrf_scenario.specs.SoFar.{SoFar}
 use Rattle.xrf_scenario.specs.Taking.{take, free_record}
-use Rattle.xrf_scenario.specs.declared.built.Forms.{Forms}
 use Rattle.xrf_scenario.specs.declared.given.Part.TheVariants as part
 use Rattle.xrf_scenario.proofs.StepLaws.{setting-written}
-use Rattle.xrf_scenario.proofs.SettingLaws.{built-allowed}
 
 -- some places, and behind them as many empty ones
 abbrev places : List (Option (List ℕ)) → ℕ → List (Option (List ℕ))
@@ -96,10 +94,10 @@ abbrev pub with_places : SoFar → List (Option (List ℕ)) → SoFar
 with_places so places = record so { records = places }
 
 -- what the lines of some records say behind a front: these records, and none above a number
-pub record AreSaid (forms : Forms) (count : ℕ) (so : SoFar) (file : ℕ) (before : List (Option (List ℕ))) (left : ℕ) (records : List (ℕ × List ℕ)) : Type 0 where
+pub record AreSaid (count : ℕ) (so : SoFar) (file : ℕ) (before : List (Option (List ℕ))) (left : ℕ) (records : List (ℕ × List ℕ)) : Type 0 where
   pub front : List (Option (List ℕ))
   pub empty : ℕ
-  pub says : SaysAll forms count (with_places so (places before left)) (records_said records) (with_places so (places front empty))
+  pub says : SaysAll count (with_places so (places before left)) (records_said records) (with_places so (places front empty))
   pub numbers : by_number 1 front ≡ by_number 1 before ++ records
   pub within : length front ≤ file
 
@@ -115,11 +113,11 @@ record-taken number so ws front left gap more n value room at =
     ∙ ap (λ (l : List (Option (List ℕ))). Ok (with_places so l)) (places-set front gap more value)
 
 -- the lines of records behind a front say these
-records-on : (forms : Forms) (count : ℕ) (so : SoFar) (file : ℕ) (before : List (Option (List ℕ))) (left : ℕ) (records : List (ℕ × List ℕ)) → so.part ≡ part.Settings
-    → file ≤ 256 → file ≤ length before + left → length before ≤ file → AreRecords (length before + 1) file records → AreSaid forms count so file before left records
-records-on forms count so file before left [] part most room within are =
+records-on : (count : ℕ) (so : SoFar) (file : ℕ) (before : List (Option (List ℕ))) (left : ℕ) (records : List (ℕ × List ℕ)) → so.part ≡ part.Settings
+    → file ≤ 256 → file ≤ length before + left → length before ≤ file → AreRecords (length before + 1) file records → AreSaid count so file before left records
+records-on count so file before left [] part most room within are =
     record { front = before; empty = left; says = refl; numbers = sym (append-nil (by_number 1 before)); within = within }
-records-on forms count so file before left (r ∷ rs) part most room within are =
+records-on count so file before left (r ∷ rs) part most room within are =
     let low : length before + 1 ≤ r.0 = are.0.0 in
     let high : r.0 ≤ file = are.0.1 in
     let gap : ℕ = r.0 - 1 - length before in
@@ -130,7 +128,7 @@ records-on forms count so file before left (r ∷ rs) part most room within are 
     let reach : length front ≡ r.0 = length-with_record before gap r.1 ∙ sym at in
     let room' : file ≤ length front + more = omega (arith, reach, at, taken, room) in
     let within' : length front ≤ file = omega (arith, reach, high) in
-    let rest = records-on forms (count + 1) so file front more rs part most room' within' (subst (λ (n : ℕ). AreRecords (n + 1) file rs) (sym reach) are.2) in
+    let rest = records-on (count + 1) so file front more rs part most room' within' (subst (λ (n : ℕ). AreRecords (n + 1) file rs) (sym reach) are.2) in
     let least : 1 ≤ r.0 = omega (arith, low) in
     let few : r.0 ≤ 256 = omega (arith, high, most) in
     record {
@@ -139,8 +137,8 @@ records-on forms count so file before left (r ∷ rs) part most room within are 
       says = (
         with_places so (places front more),
         (
-          setting-written forms (count + 1) (with_places so (places before left)) (Record r.0 r.1) (with_places so (places front more)) part ((least, few), are.1)
-              (built-allowed forms (with_places so (places before left)) (Record r.0 r.1) refl) (record-taken (count + 1) so (words (line_text (Record r.0 r.1))) before left gap more r.0 r.1 taken at),
+          setting-written (count + 1) (with_places so (places before left)) (Record r.0 r.1) (with_places so (places front more)) part ((least, few), are.1)
+              (record-taken (count + 1) so (words (line_text (Record r.0 r.1))) before left gap more r.0 r.1 taken at),
           rest.says,
         ),
       );
@@ -162,18 +160,18 @@ behind-empty zero (place ∷ front) empty within = absurd (omega arith)
 behind-empty (suc file) (place ∷ front) empty within = behind-empty file front empty (omega arith)
 
 -- what the lines of all records say: places that have these records, and none above FILE
-pub record AreAllSaid (forms : Forms) (count : ℕ) (so : SoFar) (file : ℕ) (records : List (ℕ × List ℕ)) : Type 0 where
+pub record AreAllSaid (count : ℕ) (so : SoFar) (file : ℕ) (records : List (ℕ × List ℕ)) : Type 0 where
   pub last : List (Option (List ℕ))
-  pub says : SaysAll forms count (with_places so (replicate 256 None)) (records_said records) (with_places so last)
+  pub says : SaysAll count (with_places so (replicate 256 None)) (records_said records) (with_places so last)
   pub numbers : by_number 1 last ≡ records
   pub within : list_all is_none (drop file last) ≡ true
 
 -- What is written of records says these.
-pub records-say : (forms : Forms) (count : ℕ) (so : SoFar) (file : ℕ) (records : List (ℕ × List ℕ)) → so.part ≡ part.Settings → file ≤ 256 → AreRecords 1 file records
-    → AreAllSaid forms count so file records
-records-say forms count so file records part most are =
+pub records-say : (count : ℕ) (so : SoFar) (file : ℕ) (records : List (ℕ × List ℕ)) → so.part ≡ part.Settings → file ≤ 256 → AreRecords 1 file records
+    → AreAllSaid count so file records
+records-say count so file records part most are =
     let low : 0 ≤ file = omega arith in
-    let all = records-on forms count so file [] 256 records part most most low are in
+    let all = records-on count so file [] 256 records part most most low are in
     record {
       last = places all.front all.empty;
       says = all.says;

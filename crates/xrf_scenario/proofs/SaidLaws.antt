@@ -32,7 +32,6 @@ use Rattle.xrf_setup.specs.Settings.{AreSettings, AreLevels}
 use Rattle.xrf_scenario.specs.Settled.{by_number, scenario_of, settled}
 use Rattle.xrf_scenario.specs.SoFar.{SoFar, nothing_given, nothing_said, is_whole, file_said}
 use Rattle.xrf_scenario.specs.Taking.{once, with_room, free_record, last_tick, numbered, are_within, take_setting, take}
-use Rattle.xrf_scenario.specs.declared.built.Forms.{Forms}
 use Rattle.xrf_scenario.specs.declared.given.Given.{Given}
 use Rattle.xrf_scenario.specs.declared.given.Part.{Part}
 use Rattle.xrf_scenario.specs.declared.given.Part.TheVariants.{Start, Settings, Making, Whole}
@@ -312,11 +311,11 @@ header-taken so format here said =
     nothing-given = record { applid_a = tt; applid_b = tt; adi = tt; pdi = tt; log = tt; ring = tt; file = tt; pace = tt; ticks = tt; level_a = tt; level_b = tt; force = tt }
 
 -- each step keeps what is said within its bounds
-pub step-said : (forms : Forms) (number : ℕ) (so next : SoFar) (line : List ℕ) → IsSaid so → step forms number so line ≡ Ok next → IsSaid next
-step-said forms number so next line said h = by (is_skipped line) (is_whole so.part) (step-says forms number so next line h)
+pub step-said : (number : ℕ) (so next : SoFar) (line : List ℕ) → IsSaid so → step number so line ≡ Ok next → IsSaid next
+step-said number so next line said h = by (is_skipped line) (is_whole so.part) (step-says number so next line h)
   where
-    in-part : (part : Part) → so.part ≡ part → bytes_fault line ≡ None → SaysIn part forms number so (words line) next → IsSaid next
-    in-part Start here plain says = subst IsSaid (sym says.1.2) (header-taken so says.0 here said)
+    in-part : (part : Part) → so.part ≡ part → bytes_fault line ≡ None → SaysIn part number so (words line) next → IsSaid next
+    in-part Start here plain says = subst IsSaid (sym says.1.1) (header-taken so says.0 here said)
     in-part Settings here plain says = found (setting_found so.format (words line) says.0 read)
       where
         read : line_of (settings_of so.format) (words line) ≡ Ok says.0
@@ -325,13 +324,13 @@ step-said forms number so next line said h = by (is_skipped line) (is_whole so.p
         found : ((says.0 ≡ Clt) ⊎ IsSetting so.format says.0) → IsSaid next
         found (inl same) =
             let clt : line_of (settings_of so.format) (words line) ≡ Ok Clt = read ∙ ap (λ (k : Line). Ok k) same in
-            clt-taken number so next (words line) here said (clt-kept so.format line plain clt) (ap (take number so (words line)) (sym same) ∙ says.1.2)
-        found (inr is) = line-taken number so next (words line) says.0 here said is says.1.2
+            clt-taken number so next (words line) here said (clt-kept so.format line plain clt) (ap (take number so (words line)) (sym same) ∙ says.1.1)
+        found (inr is) = line-taken number so next (words line) says.0 here said is says.1.1
     in-part Making here plain says =
-        choice-taken number so next (words line) says.0 here said (choosing_found (words line) says.0 (line-again choices_table (words line) says.0 choices-apart says.1.0)) says.1.2
+        choice-taken number so next (words line) says.0 here said (choosing_found (words line) says.0 (line-again choices_table (words line) says.0 choices-apart says.1.0)) says.1.1
     in-part Whole here plain says = absurd says
 
-    by : (skipped ended : Bool) → SaysThen skipped ended forms number so line next → IsSaid next
+    by : (skipped ended : Bool) → SaysThen skipped ended number so line next → IsSaid next
     by true ended same = subst IsSaid (sym same) said
     by false true says = subst IsSaid (sym says.1) said
     by false false says = in-part so.part refl says.0 says.1

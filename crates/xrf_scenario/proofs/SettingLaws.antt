@@ -1,5 +1,5 @@
 -- What is written of the settings says all of them.
-use Rattle.std.proofs.Common.{◌≡◌, ℕ, true, IsTrue, Bool, Option, Some, None, Ok, List, [], ◌∷◌, ◌+◌, map, refl, ap, ◌∙◌}
+use Rattle.std.proofs.Common.{◌≡◌, ℕ, Bool, Option, Some, None, Ok, List, [], ◌∷◌, ◌+◌, map, refl, ap, ◌∙◌}
 use Rattle.std.specs.List.{AllByRecursion}
 use Rattle.xrf_base.specs.declared.site.Site.TheVariants.{A, B}
 use Rattle.xrf_ctl.specs.declared.parts.Level.{Level as Program}
@@ -10,15 +10,12 @@ use Rattle.xrf_setup.specs.declared.format.Format.TheVariants.{One, Two}
 use Rattle.xrf_grammar.specs.declared.line.Line.{Line}
 use Rattle.xrf_grammar.specs.declared.line.Line.TheVariants.{Applid, Takeovr, Adi, Pdi, Log, Ring, File, Pace, Ticks, Images, Level, Xrfsoff}
 use Rattle.xrf_grammar.specs.LineText.{IsSetting, line_text}
-use Rattle.xrf_scenario.specs.Built.{is_built, allows}
 use Rattle.xrf_scenario.specs.Reading.{SaysAll}
 use Rattle.xrf_scenario.specs.SettingLines.{level_number, level_lines, setting_lines}
 use Rattle.xrf_setup.specs.Settings.{AreLevels}
 use Rattle.xrf_scenario.specs.Settled.{level_named, settled}
 use Rattle.xrf_scenario.specs.SoFar.{SoFar, nothing_given}
 use Rattle.xrf_scenario.specs.Taking.{take}
-use Rattle.xrf_scenario.specs.declared.built.Forms.{Forms}
-use Rattle.xrf_scenario.specs.declared.built.Forms.TheVariants.{All, Built}
 use Rattle.xrf_scenario.specs.declared.given.Given.{Given}
 use Rattle.xrf_scenario.specs.declared.given.Part.TheVariants as part
 use Rattle.xrf_setup.specs.declared.settings.Settings.{Settings}
@@ -57,45 +54,39 @@ given_of format t = record (without_levels t) { level_a = under_two format (leve
 abbrev pub with_given : SoFar → Given → SoFar
 with_given so given = record so { given = given }
 
--- what is built may come
-pub built-allowed : (forms : Forms) (so : SoFar) (line : Line) → is_built so line ≡ true → IsTrue (allows forms so line)
-built-allowed All so line built = refl
-built-allowed Built so line built = built
-
 -- What is written of some lines, whatever their number, gives some settings behind others.
-abbrev Give : Forms → SoFar → Given → List Line → Given → Type 0
-Give forms so before lines last = (count : ℕ) → SaysAll forms count (with_given so before) (map line_text lines) (with_given so last)
+abbrev Give : SoFar → Given → List Line → Given → Type 0
+Give so before lines last = (count : ℕ) → SaysAll count (with_given so before) (map line_text lines) (with_given so last)
 
 -- what is written of a setting gives it, and the lines behind it the others
-gives : (forms : Forms) (so : SoFar) (line : Line) (lines : List Line) (before after last : Given) → so.part ≡ part.Settings → IsSetting so.format line
-    → IsTrue (allows forms (with_given so before) line) → ((number : ℕ) → take number (with_given so before) (words (line_text line)) line ≡ Ok (with_given so after))
-    → Give forms so after lines last → Give forms so before (line ∷ lines) last
-gives forms so line lines before after last part is allowed takes others =
+gives : (so : SoFar) (line : Line) (lines : List Line) (before after last : Given) → so.part ≡ part.Settings → IsSetting so.format line
+    → ((number : ℕ) → take number (with_given so before) (words (line_text line)) line ≡ Ok (with_given so after))
+    → Give so after lines last → Give so before (line ∷ lines) last
+gives so line lines before after last part is takes others =
     λ (count : ℕ). (
       with_given so after,
-      (setting-written forms (count + 1) (with_given so before) line (with_given so after) part is allowed (takes (count + 1)), others (count + 1)),
+      (setting-written (count + 1) (with_given so before) line (with_given so after) part is (takes (count + 1)), others (count + 1)),
     )
 
 -- what is written of the levels gives them
-levels-give : (forms : Forms) (so : SoFar) (format : Format) (t : Settings) → so.part ≡ part.Settings → AllByRecursion (IsSetting so.format) (level_lines format t)
-    → Give forms so (without_levels t) (level_lines format t) (given_of format t)
-levels-give forms so One t part are = λ count. refl
-levels-give forms so Two t part are =
+levels-give : (so : SoFar) (format : Format) (t : Settings) → so.part ≡ part.Settings → AllByRecursion (IsSetting so.format) (level_lines format t)
+    → Give so (without_levels t) (level_lines format t) (given_of format t)
+levels-give so One t part are = λ count. refl
+levels-give so Two t part are =
     let g0 : Given = without_levels t in
     let g1 : Given = record g0 { level_a = Some (level_number t.level_a) } in
     let g2 : Given = record g1 { level_b = Some (level_number t.level_b) } in
     let g3 : Given = record g2 { force = Some t.force } in
-    let s3 : Give forms so g3 [] g3 = λ count. refl in
-    let s2 : Give forms so g2 (Xrfsoff t.force ∷ []) g3 = gives forms so (Xrfsoff t.force) [] g2 g3 g3 part are.1.1.0 (built-allowed forms _ _ refl) (λ number. refl) s3 in
-    let s1 : Give forms so g1 (Level B (level_number t.level_b) ∷ Xrfsoff t.force ∷ []) g3 =
-    gives forms so (Level B (level_number t.level_b)) (Xrfsoff t.force ∷ []) g1 g2 g3 part are.1.0 (built-allowed forms _ _ refl) (λ number. refl) s2 in
-    gives forms so (Level A (level_number t.level_a)) (Level B (level_number t.level_b) ∷ Xrfsoff t.force ∷ []) g0 g1 g3 part are.0 (built-allowed forms _ _ refl) (λ number. refl) s1
+    let s3 : Give so g3 [] g3 = λ count. refl in
+    let s2 : Give so g2 (Xrfsoff t.force ∷ []) g3 = gives so (Xrfsoff t.force) [] g2 g3 g3 part are.1.1.0 (λ number. refl) s3 in
+    let s1 : Give so g1 (Level B (level_number t.level_b) ∷ Xrfsoff t.force ∷ []) g3 =
+    gives so (Level B (level_number t.level_b)) (Xrfsoff t.force ∷ []) g1 g2 g3 part are.1.0 (λ number. refl) s2 in
+    gives so (Level A (level_number t.level_a)) (Level B (level_number t.level_b) ∷ Xrfsoff t.force ∷ []) g0 g1 g3 part are.0 (λ number. refl) s1
 
 -- What is written of the settings says all of them.
-pub settings-say : (forms : Forms) (count : ℕ) (so : SoFar) (t : Settings) → so.part ≡ part.Settings → AllByRecursion (IsSetting so.format) (setting_lines t)
-    → ((given : Given) → IsTrue (allows forms (with_given so given) (Images t.images)))
-    → SaysAll forms count (with_given so nothing_given) (map line_text (setting_lines t)) (with_given so (given_of t.format t))
-settings-say forms count so t part are images =
+pub settings-say : (count : ℕ) (so : SoFar) (t : Settings) → so.part ≡ part.Settings → AllByRecursion (IsSetting so.format) (setting_lines t)
+    → SaysAll count (with_given so nothing_given) (map line_text (setting_lines t)) (with_given so (given_of t.format t))
+settings-say count so t part are =
     let g1 : Given = record nothing_given { applid_a = Some t.applid_a } in
     let g2 : Given = record g1 { applid_b = Some t.applid_b } in
     let g3 : Given = record g2 { takeovr = Some t.takeovr } in
@@ -129,18 +120,18 @@ settings-say forms count so t part are images =
     let l3 : List Line = Adi t.adi ∷ l4 in
     let l2 : List Line = Takeovr t.takeovr ∷ l3 in
     let l1 : List Line = Applid B t.applid_b ∷ l2 in
-    let s11 : Give forms so g11 l11 last = levels-give forms so t.format t part a10.1 in
-    let s10 : Give forms so g10 l10 last = gives forms so (Images t.images) l11 g10 g11 last part a10.0 (images g10) (λ number. refl) s11 in
-    let s9 : Give forms so g9 l9 last = gives forms so (Ticks t.ticks) l10 g9 g10 last part a9.0 (built-allowed forms _ _ refl) (λ number. refl) s10 in
-    let s8 : Give forms so g8 l8 last = gives forms so (Pace t.pace) l9 g8 g9 last part a8.0 (built-allowed forms _ _ refl) (λ number. refl) s9 in
-    let s7 : Give forms so g7 l7 last = gives forms so (File t.file) l8 g7 g8 last part a7.0 (built-allowed forms _ _ refl) (λ number. refl) s8 in
-    let s6 : Give forms so g6 l6 last = gives forms so (Ring t.ring) l7 g6 g7 last part a6.0 (built-allowed forms _ _ refl) (λ number. refl) s7 in
-    let s5 : Give forms so g5 l5 last = gives forms so (Log t.log) l6 g5 g6 last part a5.0 (built-allowed forms _ _ refl) (λ number. refl) s6 in
-    let s4 : Give forms so g4 l4 last = gives forms so (Pdi t.pdi) l5 g4 g5 last part a4.0 (built-allowed forms _ _ refl) (λ number. refl) s5 in
-    let s3 : Give forms so g3 l3 last = gives forms so (Adi t.adi) l4 g3 g4 last part a3.0 (built-allowed forms _ _ refl) (λ number. refl) s4 in
-    let s2 : Give forms so g2 l2 last = gives forms so (Takeovr t.takeovr) l3 g2 g3 last part a2.0 (built-allowed forms _ _ refl) (λ number. refl) s3 in
-    let s1 : Give forms so g1 l1 last = gives forms so (Applid B t.applid_b) l2 g1 g2 last part a1.0 (built-allowed forms _ _ refl) (λ number. refl) s2 in
-    gives forms so (Applid A t.applid_a) l1 nothing_given g1 last part are.0 (built-allowed forms _ _ refl) (λ number. refl) s1 count
+    let s11 : Give so g11 l11 last = levels-give so t.format t part a10.1 in
+    let s10 : Give so g10 l10 last = gives so (Images t.images) l11 g10 g11 last part a10.0 (λ number. refl) s11 in
+    let s9 : Give so g9 l9 last = gives so (Ticks t.ticks) l10 g9 g10 last part a9.0 (λ number. refl) s10 in
+    let s8 : Give so g8 l8 last = gives so (Pace t.pace) l9 g8 g9 last part a8.0 (λ number. refl) s9 in
+    let s7 : Give so g7 l7 last = gives so (File t.file) l8 g7 g8 last part a7.0 (λ number. refl) s8 in
+    let s6 : Give so g6 l6 last = gives so (Ring t.ring) l7 g6 g7 last part a6.0 (λ number. refl) s7 in
+    let s5 : Give so g5 l5 last = gives so (Log t.log) l6 g5 g6 last part a5.0 (λ number. refl) s6 in
+    let s4 : Give so g4 l4 last = gives so (Pdi t.pdi) l5 g4 g5 last part a4.0 (λ number. refl) s5 in
+    let s3 : Give so g3 l3 last = gives so (Adi t.adi) l4 g3 g4 last part a3.0 (λ number. refl) s4 in
+    let s2 : Give so g2 l2 last = gives so (Takeovr t.takeovr) l3 g2 g3 last part a2.0 (λ number. refl) s3 in
+    let s1 : Give so g1 l1 last = gives so (Applid B t.applid_b) l2 g1 g2 last part a1.0 (λ number. refl) s2 in
+    gives so (Applid A t.applid_a) l1 nothing_given g1 last part are.0 (λ number. refl) s1 count
 
 -- The settings that are all given are these.
 pub settled-again : (t : Settings) → AreLevels t.format t → t ≡ settled t.format (given_of t.format t)

@@ -1,11 +1,11 @@
 -- Settings within their ranges are those whose lines a text of their format can spell.
-use Rattle.std.proofs.Common.{◌≡◌, ◌%◌, ◌==◌, ℕ, true, IsTrue, refl, arith}
+use Rattle.std.proofs.Common.{◌≡◌, ◌%◌, ℕ, IsTrue, refl, arith}
 use Rattle.std.specs.List.{AllByRecursion}
 use Rattle.std.proofs.lemmas.Bool.{eq-eqb, eqb-true}
 use Rattle.xrf_ctl.specs.declared.parts.Level.{Level}
 use Rattle.xrf_ctl.specs.declared.parts.Level.TheVariants as level
 use Rattle.xrf_setup.specs.Ranges.{IsIn}
-use Rattle.xrf_setup.specs.Settings.{AreSettings, AreLevels}
+use Rattle.xrf_setup.specs.Settings.{AreSettings}
 use Rattle.xrf_setup.specs.declared.format.Format.{Format}
 use Rattle.xrf_setup.specs.declared.format.Format.TheVariants.{One, Two}
 use Rattle.xrf_setup.specs.declared.ranges.TheConstants.{LOG_UNIT}

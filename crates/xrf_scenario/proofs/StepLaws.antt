@@ -14,14 +14,12 @@ use Rattle.xrf_grammar.specs.Plain.{IsPlain}
 use Rattle.xrf_grammar.specs.Table.{settings_of, choices_table}
 use Rattle.xrf_grammar.proofs.FormLaws.{line-found}
 use Rattle.xrf_grammar.proofs.LineAgain.{header_plain, setting_plain, setting_again, choosing_plain, choosing_again}
-use Rattle.xrf_scenario.specs.Built.{allows, allows_format}
 use Rattle.xrf_scenario.specs.Canonical.{IsReportLine}
 use Rattle.xrf_scenario.specs.Lines.{begins_with, are_none, is_skipped, is_report, bytes_fault}
 use Rattle.xrf_text.specs.Text.{is_printable}
 use Rattle.xrf_scenario.specs.Reading.{begun, SaysIn, SaysThen, Says, SaysAll}
 use Rattle.xrf_scenario.specs.SoFar.{SoFar, is_whole}
 use Rattle.xrf_scenario.specs.Taking.{take}
-use Rattle.xrf_scenario.specs.declared.built.Forms.{Forms}
 use Rattle.xrf_scenario.specs.declared.given.Part.{Part}
 use Rattle.xrf_scenario.specs.declared.given.Part.TheVariants.{Start, Settings, Making}
 use Rattle.xrf_scenario.proofs.TextLaws.{IsClean, other}
@@ -61,73 +59,73 @@ plain-not_skipped line plain =
     subst (λ (l : List ℕ). is_skipped l ≡ false) (sym plain.starts) (ap (λ (t : Bool). t || are_none (words (plain.first ∷ plain.rest))) unmarked ∙ has-word plain.first plain.rest filled)
 
 -- a plain line says what its words say
-pub plain-says : (forms : Forms) (number : ℕ) (so : SoFar) (line : List ℕ) (next : SoFar) → IsPlain line → is_whole so.part ≡ false
-    → SaysIn so.part forms number so (words line) next → Says forms number so line next
-plain-says forms number so line next plain early says =
-    subst (λ (t : Bool). SaysThen t (is_whole so.part) forms number so line next) (sym (plain-not_skipped line plain))
-    (subst (λ (t : Bool). SaysThen false t forms number so line next) (sym early) (plain-faultless line plain, says))
+pub plain-says : (number : ℕ) (so : SoFar) (line : List ℕ) (next : SoFar) → IsPlain line → is_whole so.part ≡ false
+    → SaysIn so.part number so (words line) next → Says number so line next
+plain-says number so line next plain early says =
+    subst (λ (t : Bool). SaysThen t (is_whole so.part) number so line next) (sym (plain-not_skipped line plain))
+    (subst (λ (t : Bool). SaysThen false t number so line next) (sym early) (plain-faultless line plain, says))
 
 -- a plain line before the choices says what its words spell
-pub setting-says : (forms : Forms) (number : ℕ) (so : SoFar) (text : List ℕ) (line : Line) (next : SoFar) → IsPlain text → so.part ≡ Settings
-    → Spells (settings_of so.format) (words text) line → IsTrue (allows forms so line) → take number so (words text) line ≡ Ok next → Says forms number so text next
-setting-says forms number so text line next plain part spells allowed takes =
-    plain-says forms number so text next plain (ap is_whole part) (subst (λ (p : Part). SaysIn p forms number so (words text) next) (sym part) (line, (spells, allowed, takes)))
+pub setting-says : (number : ℕ) (so : SoFar) (text : List ℕ) (line : Line) (next : SoFar) → IsPlain text → so.part ≡ Settings
+    → Spells (settings_of so.format) (words text) line → take number so (words text) line ≡ Ok next → Says number so text next
+setting-says number so text line next plain part spells takes =
+    plain-says number so text next plain (ap is_whole part) (subst (λ (p : Part). SaysIn p number so (words text) next) (sym part) (line, (spells, takes)))
 
 -- so does one of the choices
-pub choosing-says : (forms : Forms) (number : ℕ) (so : SoFar) (text : List ℕ) (line : Line) (next : SoFar) → IsPlain text → so.part ≡ Making
-    → Spells choices_table (words text) line → IsTrue (allows forms so line) → take number so (words text) line ≡ Ok next → Says forms number so text next
-choosing-says forms number so text line next plain part spells allowed takes =
-    plain-says forms number so text next plain (ap is_whole part) (subst (λ (p : Part). SaysIn p forms number so (words text) next) (sym part) (line, (spells, allowed, takes)))
+pub choosing-says : (number : ℕ) (so : SoFar) (text : List ℕ) (line : Line) (next : SoFar) → IsPlain text → so.part ≡ Making
+    → Spells choices_table (words text) line → take number so (words text) line ≡ Ok next → Says number so text next
+choosing-says number so text line next plain part spells takes =
+    plain-says number so text next plain (ap is_whole part) (subst (λ (p : Part). SaysIn p number so (words text) next) (sym part) (line, (spells, takes)))
 
 -- what is written of the header says the format
-pub header-written : (forms : Forms) (number : ℕ) (so : SoFar) (format : Format) → so.part ≡ Start → IsTrue (allows_format forms format)
-    → Says forms number so (header_text format) (begun so format)
-header-written forms number so format part allowed =
-    plain-says forms number so (header_text format) (begun so format) (header_plain format) (ap is_whole part)
-    (subst (λ (p : Part). SaysIn p forms number so (words (header_text format)) (begun so format)) (sym part) (format, (refl, allowed, refl)))
+pub header-written : (number : ℕ) (so : SoFar) (format : Format) → so.part ≡ Start
+    → Says number so (header_text format) (begun so format)
+header-written number so format part =
+    plain-says number so (header_text format) (begun so format) (header_plain format) (ap is_whole part)
+    (subst (λ (p : Part). SaysIn p number so (words (header_text format)) (begun so format)) (sym part) (format, (refl, refl)))
 
 -- what is written of a line before the choices says this line
-pub setting-written : (forms : Forms) (number : ℕ) (so : SoFar) (line : Line) (next : SoFar) → so.part ≡ Settings → IsSetting so.format line
-    → IsTrue (allows forms so line) → take number so (words (line_text line)) line ≡ Ok next → Says forms number so (line_text line) next
-setting-written forms number so line next part is allowed takes =
-    setting-says forms number so (line_text line) line next (setting_plain so.format line is) part
-    (line-found (settings_of so.format) (words (line_text line)) line (setting_again so.format line is)) allowed takes
+pub setting-written : (number : ℕ) (so : SoFar) (line : Line) (next : SoFar) → so.part ≡ Settings → IsSetting so.format line
+    → take number so (words (line_text line)) line ≡ Ok next → Says number so (line_text line) next
+setting-written number so line next part is takes =
+    setting-says number so (line_text line) line next (setting_plain so.format line is) part
+    (line-found (settings_of so.format) (words (line_text line)) line (setting_again so.format line is)) takes
 
 -- so does what is written of one of the choices
-pub choosing-written : (forms : Forms) (number : ℕ) (so : SoFar) (line : Line) (next : SoFar) → so.part ≡ Making → IsChoosing line
-    → IsTrue (allows forms so line) → take number so (words (line_text line)) line ≡ Ok next → Says forms number so (line_text line) next
-choosing-written forms number so line next part is allowed takes =
-    choosing-says forms number so (line_text line) line next (choosing_plain line is) part
-    (line-found choices_table (words (line_text line)) line (choosing_again line is)) allowed takes
+pub choosing-written : (number : ℕ) (so : SoFar) (line : Line) (next : SoFar) → so.part ≡ Making → IsChoosing line
+    → take number so (words (line_text line)) line ≡ Ok next → Says number so (line_text line) next
+choosing-written number so line next part is takes =
+    choosing-says number so (line_text line) line next (choosing_plain line is) part
+    (line-found choices_table (words (line_text line)) line (choosing_again line is)) takes
 
 -- lines say what the first of them and then the others say
-pub both-say : (forms : Forms) (count : ℕ) (so : SoFar) (ls ms : List (List ℕ)) (mid last : SoFar) → SaysAll forms count so ls mid → SaysAll forms (count + length ls) mid ms last
-    → SaysAll forms count so (ls ++ ms) last
-both-say forms count so [] ms mid last first second =
+pub both-say : (count : ℕ) (so : SoFar) (ls ms : List (List ℕ)) (mid last : SoFar) → SaysAll count so ls mid → SaysAll (count + length ls) mid ms last
+    → SaysAll count so (ls ++ ms) last
+both-say count so [] ms mid last first second =
     let none : count + 0 ≡ count = omega arith in
-    subst (λ (s : SoFar). SaysAll forms count s ms last) first (subst (λ (n : ℕ). SaysAll forms n mid ms last) none second)
-both-say forms count so (line ∷ ls) ms mid last first second =
+    subst (λ (s : SoFar). SaysAll count s ms last) first (subst (λ (n : ℕ). SaysAll n mid ms last) none second)
+both-say count so (line ∷ ls) ms mid last first second =
     let more : count + length (line ∷ ls) ≡ count + 1 + length ls = omega arith in
-    (first.0, (first.1.0, both-say forms (count + 1) first.0 ls ms mid last first.1.1 (subst (λ (n : ℕ). SaysAll forms n mid ms last) more second)))
+    (first.0, (first.1.0, both-say (count + 1) first.0 ls ms mid last first.1.1 (subst (λ (n : ℕ). SaysAll n mid ms last) more second)))
 
 -- Lines, one for each element of a list, say what is said with all elements, where each says what
 -- is said with one more.
-pub each-says : {X : Type 0} (forms : Forms) (count : ℕ) (text : X → List ℕ) (with : List X → SoFar) (all : List X)
-    → ((done : List X) (x : X) (rest : List X) → all ≡ done ++ x ∷ rest → Says forms (count + length done + 1) (with done) (text x) (with (done ++ x ∷ [])))
-    → (done rest : List X) → all ≡ done ++ rest → SaysAll forms (count + length done) (with done) (map text rest) (with all)
-each-says forms count text with all step done [] split = ap with (split ∙ append-nil done)
-each-says forms count text with all step done (x ∷ rest) split =
+pub each-says : {X : Type 0} (count : ℕ) (text : X → List ℕ) (with : List X → SoFar) (all : List X)
+    → ((done : List X) (x : X) (rest : List X) → all ≡ done ++ x ∷ rest → Says (count + length done + 1) (with done) (text x) (with (done ++ x ∷ [])))
+    → (done rest : List X) → all ≡ done ++ rest → SaysAll (count + length done) (with done) (map text rest) (with all)
+each-says count text with all step done [] split = ap with (split ∙ append-nil done)
+each-says count text with all step done (x ∷ rest) split =
     let more : count + length (done ++ x ∷ []) ≡ count + length done + 1 = omega (arith, length_push done x) in
-    let says = each-says forms count text with all step (done ++ x ∷ []) rest (split ∙ sym (append_assoc done (x ∷ []) rest)) in
-    (with (done ++ x ∷ []), (step done x rest split, subst (λ (n : ℕ). SaysAll forms n (with (done ++ x ∷ [])) (map text rest) (with all)) more says))
+    let says = each-says count text with all step (done ++ x ∷ []) rest (split ∙ sym (append_assoc done (x ∷ []) rest)) in
+    (with (done ++ x ∷ []), (step done x rest split, subst (λ (n : ℕ). SaysAll n (with (done ++ x ∷ [])) (map text rest) (with all)) more says))
 
 -- the same, from none of the elements on
-pub all-say : {X : Type 0} (forms : Forms) (count : ℕ) (text : X → List ℕ) (with : List X → SoFar) (all : List X)
-    → ((done : List X) (x : X) (rest : List X) → all ≡ done ++ x ∷ rest → Says forms (count + length done + 1) (with done) (text x) (with (done ++ x ∷ [])))
-    → SaysAll forms count (with []) (map text all) (with all)
-all-say forms count text with all step =
+pub all-say : {X : Type 0} (count : ℕ) (text : X → List ℕ) (with : List X → SoFar) (all : List X)
+    → ((done : List X) (x : X) (rest : List X) → all ≡ done ++ x ∷ rest → Says (count + length done + 1) (with done) (text x) (with (done ++ x ∷ [])))
+    → SaysAll count (with []) (map text all) (with all)
+all-say count text with all step =
     let none : count + 0 ≡ count = omega arith in
-    subst (λ (n : ℕ). SaysAll forms n (with []) (map text all) (with all)) none (each-says forms count text with all step [] all refl)
+    subst (λ (n : ℕ). SaysAll n (with []) (map text all) (with all)) none (each-says count text with all step [] all refl)
 
 -- what holds of all elements holds of the one behind some
 pub all-at : {X : Type 0} (P : X → Type 0) (done : List X) (x : X) (rest : List X) → AllByRecursion P (done ++ x ∷ rest) → P x
@@ -135,16 +133,16 @@ all-at P [] x rest all = all.0
 all-at P (y ∷ done) x rest all = all-at P done x rest all.1
 
 -- Behind END the lines of a report say nothing more.
-pub report-says : (forms : Forms) (count : ℕ) (so : SoFar) (ls : List (List ℕ)) → is_whole so.part ≡ true → AllByRecursion IsReportLine ls → SaysAll forms count so ls so
-report-says forms count so [] whole all = refl
-report-says forms count so (line ∷ ls) whole all = (so, (by (is_skipped line), report-says forms (count + 1) so ls whole all.1))
+pub report-says : (count : ℕ) (so : SoFar) (ls : List (List ℕ)) → is_whole so.part ≡ true → AllByRecursion IsReportLine ls → SaysAll count so ls so
+report-says count so [] whole all = refl
+report-says count so (line ∷ ls) whole all = (so, (by (is_skipped line), report-says (count + 1) so ls whole all.1))
   where
     marked : IsTrue (is_report line)
     marked = ap (begins_with 42) all.0.marked
 
-    by : (t : Bool) → SaysThen t (is_whole so.part) forms (count + 1) so line so
+    by : (t : Bool) → SaysThen t (is_whole so.part) (count + 1) so line so
     by true = refl
-    by false = subst (λ (t : Bool). SaysThen false t forms (count + 1) so line so) (sym whole) (marked, refl)
+    by false = subst (λ (t : Bool). SaysThen false t (count + 1) so line so) (sym whole) (marked, refl)
 
 -- and they have no byte below a blank
 pub report-clean : (line : List ℕ) → IsReportLine line → IsClean line

@@ -1,5 +1,5 @@
 -- The canonical text of a scenario and its choices.
-use Rattle.std.specs.Prelude.{◌≡◌, ◌≤◌, ℕ, ◌+◌, List, [], ◌∷◌, ◌++◌, length, map, codes, flat_map}
+use Rattle.std.specs.Prelude.{◌≡◌, ◌≤◌, ℕ, ◌+◌, List, [], ◌∷◌, ◌++◌, length, map, flat_map}
 use Rattle.std.specs.List.{AllByRecursion}
 use Rattle.xrf_base.specs.declared.items.Item.{Item}
 use Rattle.xrf_base.specs.declared.site.Site.TheVariants.{A, B}
@@ -10,12 +10,10 @@ use Rattle.xrf_setup.specs.Choices.{HasLine}
 use Rattle.xrf_setup.specs.declared.choice.Choice.{Choice}
 use Rattle.xrf_setup.specs.declared.ranges.TheConstants.{CHOICES_MOST}
 use Rattle.xrf_grammar.specs.declared.line.Line.TheVariants.{Record, Work, Plan, Choices, End}
-use Rattle.xrf_scenario.specs.Built.{AreAllowed}
 use Rattle.xrf_scenario.specs.Reading.{Reads}
 use Rattle.xrf_setup.specs.Scenario.{Scen, IsScen}
 use Rattle.xrf_scenario.specs.SettingLines.{setting_lines}
 use Rattle.xrf_setup.specs.Commands.{kept_line}
-use Rattle.xrf_scenario.specs.declared.built.Forms.{Forms}
 use Rattle.xrf_scenario.specs.Taking.{numbered}
 use Rattle.xrf_scenario.specs.declared.numbered.Numbered.{Numbered}
 
@@ -83,5 +81,5 @@ pub record AreChoices (choices : List Choice) : Type 0 where
 
 -- What is written of a scenario and its choices is read again as the same, also with a report behind it.
 abbrev pub ReadAgain : Type 0
-ReadAgain = (forms : Forms) (s : Scen) (choices : List Choice) (report : List ℕ) → IsScen s → AreChoices choices → AreAllowed forms s choices → IsReport report
-    → Reads forms (canon s choices ++ report) s (at_lines s choices)
+ReadAgain = (s : Scen) (choices : List Choice) (report : List ℕ) → IsScen s → AreChoices choices → IsReport report
+    → Reads (canon s choices ++ report) s (at_lines s choices)

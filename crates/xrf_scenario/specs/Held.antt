@@ -2,9 +2,8 @@
 use Rattle.std.specs.Prelude.{◌≡◌, ℕ, List, Result, Ok, Err}
 use Rattle.xrf_grammar.specs.declared.reason.Reason.{Reason}
 use Rattle.xrf_scenario.specs.Machine.{Fault as BadLine}
-use Rattle.xrf_scenario.specs.Reading.{HasBad, told}
+use Rattle.xrf_scenario.specs.Reading.{HasBad}
 use Rattle.xrf_scenario.specs.SoFar.{SoFar}
-use Rattle.xrf_scenario.specs.declared.built.Forms.{Forms}
 use Rattle.xrf_scenario.specs.declared.read_bad.ReadBad.{ReadBad}
 use Rattle.xrf_scenario.specs.declared.read_bad.ReadBad.TheVariants as bad
 use Rattle.xrf_scenario.specs.declared.reading.Reading.{Reading}
@@ -21,10 +20,10 @@ Tells (Ok done) now made = made ≡ Ok now
 Tells (Err (Fault reason)) now made = made ≡ Err reason
 Tells (Err NoMemory) now made = Unit {0}
 
--- what is told of a line at which reading stops, with lines behind it
-abbrev pub bad_of : Stop → ℕ → List (List ℕ) → ReadBad
-bad_of (Fault reason) number lines = bad.Bad number (told lines reason)
-bad_of NoMemory number lines = bad.NoMemory
+-- what is told of a line at which reading stops
+abbrev pub bad_of : Stop → ℕ → ReadBad
+bad_of (Fault reason) number = bad.Bad number reason
+bad_of NoMemory number = bad.NoMemory
 
 -- A reading of all lines, or a fault, is what reading the text gives, unless memory ran out.
 abbrev pub Gives : Result Reading ReadBad → Result SoFar BadLine → Type 0
@@ -33,6 +32,6 @@ Gives (Err (bad.Bad number reason)) read = read ≡ Err (record { line = number;
 Gives (Err bad.NoMemory) read = Unit {0}
 
 -- An answer that is no reading says which line is bad first and why, or that memory ran out.
-abbrev pub IsBad : Forms → List ℕ → ReadBad → Type 0
-IsBad forms text (bad.Bad number reason) = HasBad forms text number reason
-IsBad forms text bad.NoMemory = Unit {0}
+abbrev pub IsBad : List ℕ → ReadBad → Type 0
+IsBad text (bad.Bad number reason) = HasBad text number reason
+IsBad text bad.NoMemory = Unit {0}

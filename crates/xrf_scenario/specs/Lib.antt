@@ -1,10 +1,8 @@
 pub mod Lines
 pub mod SoFar
 pub mod Taking
-pub mod Work
 pub mod SettingLines
 pub mod Settled
-pub mod Built
 pub mod Reasons
 pub mod Reading
 pub mod Said

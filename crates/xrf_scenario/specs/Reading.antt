@@ -7,15 +7,13 @@ use Rattle.xrf_grammar.specs.Table.{settings_of, choices_table}
 use Rattle.xrf_setup.specs.declared.format.Format.{Format}
 use Rattle.xrf_grammar.specs.declared.line.Line.{Line}
 use Rattle.xrf_grammar.specs.declared.reason.Reason.{Reason}
-use Rattle.xrf_grammar.specs.declared.reason.Reason.TheVariants.{NoEnd, NotBuilt}
-use Rattle.xrf_scenario.specs.Built.{allows, allows_format}
+use Rattle.xrf_grammar.specs.declared.reason.Reason.TheVariants.{NoEnd}
 use Rattle.xrf_scenario.specs.Lines.{text_lines, is_skipped, is_report, bytes_fault}
 use Rattle.xrf_scenario.specs.Reasons.{Holds, header_words}
 use Rattle.xrf_setup.specs.Scenario.{Scen}
 use Rattle.xrf_scenario.specs.Settled.{scenario_of}
 use Rattle.xrf_scenario.specs.SoFar.{SoFar, nothing_said, is_whole}
 use Rattle.xrf_scenario.specs.Taking.{take}
-use Rattle.xrf_scenario.specs.declared.built.Forms.{Forms}
 use Rattle.xrf_scenario.specs.declared.given.Part.{Part}
 use Rattle.xrf_scenario.specs.declared.given.Part.TheVariants.{Start, Settings, Making, Whole}
 use Rattle.xrf_scenario.specs.declared.numbered.Numbered.{Numbered}
@@ -25,75 +23,68 @@ abbrev pub begun : SoFar → Format → SoFar
 begun so format = record so { part = Settings; format = format }
 
 -- Some words say something in a part of the text: they are a header, or they spell a line of the
--- part that may come.
-abbrev pub SaysIn : Part → Forms → ℕ → SoFar → List (List ℕ) → SoFar → Type 0
-SaysIn Start forms number so ws next = (format : Format) × ((ws ≡ header_words format) × IsTrue (allows_format forms format) × (next ≡ begun so format))
-SaysIn Settings forms number so ws next = (line : Line) × (Spells (settings_of so.format) ws line × IsTrue (allows forms so line) × (take number so ws line ≡ Ok next))
-SaysIn Making forms number so ws next = (line : Line) × (Spells choices_table ws line × IsTrue (allows forms so line) × (take number so ws line ≡ Ok next))
-SaysIn Whole forms number so ws next = ⊥
+-- part, and what was said before lets it come.
+abbrev pub SaysIn : Part → ℕ → SoFar → List (List ℕ) → SoFar → Type 0
+SaysIn Start number so ws next = (format : Format) × ((ws ≡ header_words format) × (next ≡ begun so format))
+SaysIn Settings number so ws next = (line : Line) × (Spells (settings_of so.format) ws line × (take number so ws line ≡ Ok next))
+SaysIn Making number so ws next = (line : Line) × (Spells choices_table ws line × (take number so ws line ≡ Ok next))
+SaysIn Whole number so ws next = ⊥
 
 -- The next line of a text, which has this number, is skipped, or is one of a report behind END, or
 -- is of bytes from blank to `~`, at most 300, and its words say something in its part.
-abbrev pub SaysThen : Bool → Bool → Forms → ℕ → SoFar → List ℕ → SoFar → Type 0
-SaysThen true ended forms number so line next = next ≡ so
-SaysThen false true forms number so line next = IsTrue (is_report line) × (next ≡ so)
-SaysThen false false forms number so line next = (bytes_fault line ≡ None) × SaysIn so.part forms number so (words line) next
+abbrev pub SaysThen : Bool → Bool → ℕ → SoFar → List ℕ → SoFar → Type 0
+SaysThen true ended number so line next = next ≡ so
+SaysThen false true number so line next = IsTrue (is_report line) × (next ≡ so)
+SaysThen false false number so line next = (bytes_fault line ≡ None) × SaysIn so.part number so (words line) next
 
-abbrev pub Says : Forms → ℕ → SoFar → List ℕ → SoFar → Type 0
-Says forms number so line next = SaysThen (is_skipped line) (is_whole so.part) forms number so line next
+abbrev pub Says : ℕ → SoFar → List ℕ → SoFar → Type 0
+Says number so line next = SaysThen (is_skipped line) (is_whole so.part) number so line next
 
 -- the lines behind so many lines say, one after the other
-abbrev pub SaysAll : Forms → ℕ → SoFar → List (List ℕ) → SoFar → Type 0
-SaysAll forms count so [] last = last ≡ so
-SaysAll forms count so (line ∷ lines) last = (next : SoFar) × (Says forms (count + 1) so line next × SaysAll forms (count + 1) next lines last)
+abbrev pub SaysAll : ℕ → SoFar → List (List ℕ) → SoFar → Type 0
+SaysAll count so [] last = last ≡ so
+SaysAll count so (line ∷ lines) last = (next : SoFar) × (Says (count + 1) so line next × SaysAll (count + 1) next lines last)
 
 -- The text spells the scenario and the choices: its lines say them, and END is among them.
-pub record Reads (forms : Forms) (text : List ℕ) (s : Scen) (choices : List Numbered) : Type 0 where
+pub record Reads (text : List ℕ) (s : Scen) (choices : List Numbered) : Type 0 where
   pub last : SoFar
-  pub said : SaysAll forms 0 nothing_said (text_lines text) last
+  pub said : SaysAll 0 nothing_said (text_lines text) last
   pub whole : IsTrue (is_whole last.part)
   pub scenario : s ≡ scenario_of last
   pub made : choices ≡ last.choices
 
--- On the last line of a text the want of END comes before what is not built.
-abbrev pub told : List (List ℕ) → Reason → Reason
-told [] NotBuilt = NoEnd
-told lines reason = reason
-
 -- The text has a first line that may not come: those before it say something, it is not skipped, and
 -- this is the first of the reasons that hold of it.
-pub record HasBadLine (forms : Forms) (text : List ℕ) (number : ℕ) (reason : Reason) : Type 0 where
+pub record HasBadLine (text : List ℕ) (number : ℕ) (reason : Reason) : Type 0 where
   pub before : List (List ℕ)
   pub bad : List ℕ
   pub rest : List (List ℕ)
   pub so : SoFar
-  pub first : Reason
   pub spelled : text_lines text ≡ before ++ bad ∷ rest
-  pub said : SaysAll forms 0 nothing_said before so
+  pub said : SaysAll 0 nothing_said before so
   pub shown : is_skipped bad ≡ false
-  pub is_first : IsFirst (Holds forms so bad) first
+  pub is_first : IsFirst (Holds so bad) reason
   pub place : number ≡ length before + 1
-  pub reason_told : reason ≡ told rest first
 
 -- The text's lines all say something and END is not among them; the fault is that of the last line,
 -- or of line 1 where there is none.
-pub record EndsEarly (forms : Forms) (text : List ℕ) (number : ℕ) (reason : Reason) : Type 0 where
+pub record EndsEarly (text : List ℕ) (number : ℕ) (reason : Reason) : Type 0 where
   pub last : SoFar
-  pub said : SaysAll forms 0 nothing_said (text_lines text) last
+  pub said : SaysAll 0 nothing_said (text_lines text) last
   pub early : is_whole last.part ≡ false
   pub place : number ≡ max 1 (length (text_lines text))
   pub no_end : reason ≡ NoEnd
 
 -- the first bad line of the text, and its first reason
-abbrev pub HasBad : Forms → List ℕ → ℕ → Reason → Type 0
-HasBad forms text number reason = HasBadLine forms text number reason ⊎ EndsEarly forms text number reason
+abbrev pub HasBad : List ℕ → ℕ → Reason → Type 0
+HasBad text number reason = HasBadLine text number reason ⊎ EndsEarly text number reason
 
 -- A text is read in one way, no text is both read and refused, and it is refused in one way.
 abbrev pub OneReading : Type 0
-OneReading = (forms : Forms) (text : List ℕ) (s s' : Scen) (choices choices' : List Numbered) → Reads forms text s choices → Reads forms text s' choices' → (s ≡ s') × (choices ≡ choices')
+OneReading = (text : List ℕ) (s s' : Scen) (choices choices' : List Numbered) → Reads text s choices → Reads text s' choices' → (s ≡ s') × (choices ≡ choices')
 
 abbrev pub NeverBoth : Type 0
-NeverBoth = (forms : Forms) (text : List ℕ) (s : Scen) (choices : List Numbered) (number : ℕ) (reason : Reason) → Reads forms text s choices → HasBad forms text number reason → ⊥
+NeverBoth = (text : List ℕ) (s : Scen) (choices : List Numbered) (number : ℕ) (reason : Reason) → Reads text s choices → HasBad text number reason → ⊥
 
 abbrev pub OneFault : Type 0
-OneFault = (forms : Forms) (text : List ℕ) (number number' : ℕ) (reason reason' : Reason) → HasBad forms text number reason → HasBad forms text number' reason' → (number ≡ number') × (reason ≡ reason')
+OneFault = (text : List ℕ) (number number' : ℕ) (reason reason' : Reason) → HasBad text number reason → HasBad text number' reason' → (number ≡ number') × (reason ≡ reason')

@@ -15,13 +15,11 @@ use Rattle.xrf_setup.specs.declared.ranges.TheConstants.{LINE_MOST}
 use Rattle.xrf_grammar.specs.declared.line.Line.{Line}
 use Rattle.xrf_grammar.specs.declared.line.Line.TheVariants.{Applid, Takeovr, Adi, Pdi, Log, Ring, File, Pace, Ticks, Images, Level, Xrfsoff, Record, Clt, Work, Plan, Choices, Once, Times}
 use Rattle.xrf_grammar.specs.declared.reason.Reason.{Reason}
-use Rattle.xrf_grammar.specs.declared.reason.Reason.TheVariants.{BadByte, LongLine, NoHeader, BadFormat, AfterEnd, PlanOrder, Twice, TooMany, RrnRange, NotBuilt}
-use Rattle.xrf_scenario.specs.Built.{allows, allows_format}
+use Rattle.xrf_grammar.specs.declared.reason.Reason.TheVariants.{BadByte, LongLine, NoHeader, BadFormat, AfterEnd, PlanOrder, Twice, TooMany, RrnRange}
 use Rattle.xrf_scenario.specs.Lines.{is_report}
 use Rattle.xrf_text.specs.Text.{is_printable}
 use Rattle.xrf_scenario.specs.SoFar.{SoFar, is_whole}
 use Rattle.xrf_scenario.specs.Taking.{are_within, has_choice_room, has_clt_room, has_plan_room, has_work_room, is_early, is_free}
-use Rattle.xrf_scenario.specs.declared.built.Forms.{Forms}
 use Rattle.xrf_scenario.specs.declared.given.Part.{Part}
 use Rattle.xrf_scenario.specs.declared.given.Part.TheVariants.{Start, Settings, Making, Whole}
 
@@ -87,28 +85,20 @@ pub record SpellsBad (so : SoFar) (text : List ℕ) (test : Line → Bool) : Typ
   pub spelled : SpellsNext so text line
   pub bad : test line ≡ true
 
--- a header of a format that is not built
-pub record HeaderNotBuilt (forms : Forms) (so : SoFar) (text : List ℕ) : Type 0 where
-  pub format : Format
-  pub at_start : so.part ≡ Start
-  pub header : words text ≡ header_words format
-  pub not_built : allows_format forms format ≡ false
-
 -- Where a reason of a text holds of a line: of its bytes, its place, and what was said before.
-abbrev pub HoldsOfText : Forms → SoFar → List ℕ → Reason → Type 0
-HoldsOfText forms so text BadByte = (is_whole so.part ≡ false) × (list_all is_printable text ≡ false)
-HoldsOfText forms so text LongLine = (is_whole so.part ≡ false) × (LINE_MOST < length text)
-HoldsOfText forms so text NoHeader = (so.part ≡ Start) × (first (words text) ≢ codes "XRF")
-HoldsOfText forms so text BadFormat = (so.part ≡ Start) × ((format : Format) → words text ≢ header_words format)
-HoldsOfText forms so text AfterEnd = (so.part ≡ Whole) × (is_report text ≡ false)
-HoldsOfText forms so text PlanOrder = SpellsBad so text (falls so)
-HoldsOfText forms so text Twice = SpellsBad so text (is_given so)
-HoldsOfText forms so text TooMany = SpellsBad so text (is_over so)
-HoldsOfText forms so text RrnRange = SpellsBad so text (is_outside so)
-HoldsOfText forms so text NotBuilt = SpellsBad so text (λ line. not (allows forms so line)) ⊎ HeaderNotBuilt forms so text
-HoldsOfText forms so text reason = ⊥
+abbrev pub HoldsOfText : SoFar → List ℕ → Reason → Type 0
+HoldsOfText so text BadByte = (is_whole so.part ≡ false) × (list_all is_printable text ≡ false)
+HoldsOfText so text LongLine = (is_whole so.part ≡ false) × (LINE_MOST < length text)
+HoldsOfText so text NoHeader = (so.part ≡ Start) × (first (words text) ≢ codes "XRF")
+HoldsOfText so text BadFormat = (so.part ≡ Start) × ((format : Format) → words text ≢ header_words format)
+HoldsOfText so text AfterEnd = (so.part ≡ Whole) × (is_report text ≡ false)
+HoldsOfText so text PlanOrder = SpellsBad so text (falls so)
+HoldsOfText so text Twice = SpellsBad so text (is_given so)
+HoldsOfText so text TooMany = SpellsBad so text (is_over so)
+HoldsOfText so text RrnRange = SpellsBad so text (is_outside so)
+HoldsOfText so text reason = ⊥
 
 -- A reason holds of a line that is not skipped, behind lines that say so much: one of the text, or
 -- one of its words by the forms of its part.
-abbrev pub Holds : Forms → SoFar → List ℕ → Reason → Type 0
-Holds forms so text reason = HoldsOfText forms so text reason ⊎ ((has_forms so.part ≡ true) × IsFaultOf (forms_of so.part so.format) (words text) reason)
+abbrev pub Holds : SoFar → List ℕ → Reason → Type 0
+Holds so text reason = HoldsOfText so text reason ⊎ ((has_forms so.part ≡ true) × IsFaultOf (forms_of so.part so.format) (words text) reason)

@@ -2,7 +2,6 @@
 //! choices of a run; and the text that spells them.
 #![tactic(auto)]
 
-mod built;
 mod canonical;
 mod given;
 mod last_choice;
@@ -17,13 +16,11 @@ mod stepping;
 mod stop;
 mod taking;
 mod text;
-mod work;
 
-pub use built::Forms;
 pub use canonical::{put_canonical, read_again, settings_are_lines, write};
 pub use numbered::Numbered;
 pub use read_bad::ReadBad;
-pub use text::{one_reading, read, read_forms};
+pub use text::{one_reading, read};
 pub use xrf_grammar::Reason;
 pub use xrf_setup::{Choice, Format, Landing, Scenario, Settings, TornBytes};
 

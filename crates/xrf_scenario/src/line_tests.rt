@@ -61,10 +61,10 @@ fn text_with(
 }
 
 // the line and the reason for which a text is refused
-fn refusal(alloc: Global, forms: Forms, text: &[u8]) -> Option<(u32, Reason)>
+fn refusal(alloc: Global, text: &[u8]) -> Option<(u32, Reason)>
     requires { length text.now ≤ 4194304 }
 {
-    match read_forms(alloc, forms, text) {
+    match read(alloc, text) {
         Err(ReadBad::Bad { line, reason }) => Some((line, reason)),
         _ => None,
     }
@@ -387,10 +387,11 @@ const PADDED: [(Place, usize, &[u8], Option<Reason>); 7] = [
 ];
 
 // whole texts, with the line
-const TEXTS: [(&[u8], u32, Option<Reason>); 35] = [
+const TEXTS: [(&[u8], u32, Option<Reason>); 36] = [
     (b"", 1, Some(Reason::NoEnd)),
     (b"XRF 1", 1, Some(Reason::NoEnd)),
     (b"XRF 1\n\n# x\n", 3, Some(Reason::NoEnd)),
+    (b"XRF 2\n", 1, Some(Reason::NoEnd)),
     (b"XRF 1\nCHOICES\nSTEP A\n", 3, Some(Reason::NoEnd)),
     (b"HELLO", 1, Some(Reason::NoHeader)),
     (b"\n# a\n xrf 1\n", 3, Some(Reason::NoHeader)),
@@ -477,74 +478,6 @@ const TEXTS: [(&[u8], u32, Option<Reason>); 35] = [
     ),
 ];
 
-// whole texts, of lines that the program runs today
-const BUILT: [(&[u8], u32, Option<Reason>); 20] = [
-    (b"XRF 2\nCHOICES\nEND\n", 1, Some(Reason::NotBuilt)),
-    (b"XRF 2", 1, Some(Reason::NoEnd)),
-    (b"XRF 2\n", 1, Some(Reason::NoEnd)),
-    (b"XRF 1\nIMAGES ON\n", 2, Some(Reason::NoEnd)),
-    (b"XRF 1\nIMAGES ON\n\n", 2, Some(Reason::NotBuilt)),
-    (
-        b"XRF 1\nWORK B BEGIN U1\nCHOICES\n",
-        2,
-        Some(Reason::NotBuilt),
-    ),
-    (
-        b"XRF 1\nWORK A GET U1 1\nCHOICES\n",
-        2,
-        Some(Reason::NotBuilt),
-    ),
-    (
-        b"XRF 1\nWORK A BEGIN U1\nWORK A COMMIT U1\nWORK A BEGIN U2\nCHOICES\n",
-        4,
-        Some(Reason::NotBuilt),
-    ),
-    (
-        b"XRF 1\nWORK A PUT U1 1 V\nCHOICES\n",
-        2,
-        Some(Reason::NotBuilt),
-    ),
-    (
-        b"XRF 1\nWORK A BEGIN U1\nWORK A PUT U2 1 V\nCHOICES\n",
-        3,
-        Some(Reason::NotBuilt),
-    ),
-    (
-        b"XRF 1\nPLAN 5 ABEND A\nCHOICES\n",
-        2,
-        Some(Reason::NotBuilt),
-    ),
-    (b"XRF 1\nPLAN 5 STEP A\nCHOICES\n", 2, Some(Reason::BadPlan)),
-    (b"XRF 1\nCHOICES\nTICK\nEND\n", 3, Some(Reason::NotBuilt)),
-    (
-        b"XRF 1\nCHOICES\nTICK 9000\nEND\n",
-        3,
-        Some(Reason::TooMany),
-    ),
-    (b"XRF 1\nCHOICES\nSTEP B\nEND\n", 3, Some(Reason::NotBuilt)),
-    (
-        b"XRF 1\nCHOICES\nSTART B ACTIVE\nEND\n",
-        3,
-        Some(Reason::NotBuilt),
-    ),
-    (
-        b"XRF 1\nCHOICES\nSTART A STANDBY\nADI\n",
-        3,
-        Some(Reason::NotBuilt),
-    ),
-    (b"XRF 1\nIMAGES ON\nIMAGES ON\n", 2, Some(Reason::NotBuilt)),
-    (
-        b"XRF 1\nCHOICES\nSTOP A NONE\nEND\n",
-        3,
-        Some(Reason::NotBuilt),
-    ),
-    (
-        b"XRF 1\nTAKEOVR AUTO\nADI 5\nCLT X WTO hello\nIMAGES OFF\nWORK A BEGIN U1\nWORK A COMMIT U1\nCHOICES\nSTART A ACTIVE\nSTEP A 3\nEND\n",
-        0,
-        None,
-    ),
-];
-
 #[test]
 fn each_line_is_read_or_has_its_first_reason(rt: HostRuntime) -> Result<(), Fail> {
     let tables = [
@@ -562,30 +495,21 @@ fn each_line_is_read_or_has_its_first_reason(rt: HostRuntime) -> Result<(), Fail
             let text = text_with(rt.alloc(), *place, line, 0)?;
             assert!(rt; text.len() < 1000);
             let wanted = reason.map(|reason| (number(*place), reason));
-            assert_eq!(rt; refusal(rt.alloc(), Forms::All, &text), wanted);
+            assert_eq!(rt; refusal(rt.alloc(), &text), wanted);
         }
     }
     for (place, width, line, reason) in &PADDED {
         let text = text_with(rt.alloc(), *place, line, *width)?;
         assert!(rt; text.len() < 1000);
         let wanted = reason.map(|reason| (number(*place), reason));
-        assert_eq!(rt; refusal(rt.alloc(), Forms::All, &text), wanted);
+        assert_eq!(rt; refusal(rt.alloc(), &text), wanted);
     }
     for (text, line, reason) in &TEXTS {
         assert!(rt; text.len() < 1000);
         let wanted = reason.map(|reason| (*line, reason));
-        assert_eq!(rt; refusal(rt.alloc(), Forms::All, text), wanted);
+        assert_eq!(rt; refusal(rt.alloc(), text), wanted);
     }
     Ok(())
-}
-
-#[test]
-fn what_is_not_run_yet_is_refused_behind_all_other_reasons(rt: HostRuntime) {
-    for (text, line, reason) in &BUILT {
-        assert!(rt; text.len() < 1000);
-        let wanted = reason.map(|reason| (*line, reason));
-        assert_eq!(rt; refusal(rt.alloc(), Forms::Built, text), wanted);
-    }
 }
 
 // so many copies of a line before the choices
@@ -599,33 +523,6 @@ fn repeated(alloc: Global, line: &[u8], count: usize) -> Result<Vec<u8>, AllocEr
     Ok(text)
 }
 
-// a unit of so many PUTs, and its COMMIT
-fn unit(alloc: Global, puts: usize, behind: &[u8]) -> Result<Vec<u8>, AllocError> {
-    let mut text = Vec::new(alloc);
-    text.extend_from_slice(b"XRF 1\nWORK A BEGIN U1\n")?;
-    for put in 0..puts {
-        text.extend_from_slice(b"WORK A PUT U1 1 V\n")?;
-    }
-    text.extend_from_slice(behind)?;
-    text.extend_from_slice(b"CHOICES\nEND\n")?;
-    Ok(text)
-}
-
-#[test]
-fn a_unit_of_60_puts_is_run_and_no_more(rt: HostRuntime) -> Result<(), Fail> {
-    let most = unit(rt.alloc(), 60, b"WORK A COMMIT U1\n")?;
-    assert!(rt; most.len() < 10_000);
-    assert_eq!(rt; refusal(rt.alloc(), Forms::Built, &most), None);
-    let more = unit(rt.alloc(), 61, b"")?;
-    assert!(rt; more.len() < 10_000);
-    assert_eq!(rt;
-        refusal(rt.alloc(), Forms::Built, &more),
-        Some((63, Reason::NotBuilt))
-    );
-    assert_eq!(rt; refusal(rt.alloc(), Forms::All, &more), None);
-    Ok(())
-}
-
 #[test]
 fn there_are_limits_to_lists_work_and_plan(rt: HostRuntime) -> Result<(), Fail> {
     let table: [(&[u8], usize); 4] = [
@@ -637,11 +534,11 @@ fn there_are_limits_to_lists_work_and_plan(rt: HostRuntime) -> Result<(), Fail> 
     for (line, most) in &table {
         let text = repeated(rt.alloc(), line, *most)?;
         assert!(rt; text.len() < 100_000);
-        assert_eq!(rt; refusal(rt.alloc(), Forms::All, &text), None);
+        assert_eq!(rt; refusal(rt.alloc(), &text), None);
         let text = repeated(rt.alloc(), line, *most + 1)?;
         assert!(rt; text.len() < 100_000);
         assert_eq!(rt;
-            refusal(rt.alloc(), Forms::All, &text),
+            refusal(rt.alloc(), &text),
             Some((*most as u32 + 2, Reason::TooMany))
         );
     }

@@ -12,7 +12,6 @@ ghost use Rattle.xrf_scenario.specs.Said.{IsSaid, IsLineSaid};
 ghost use Rattle.xrf_scenario.specs.SoFar.{is_whole};
 ghost use Rattle.xrf_text.specs.Text.{words};
 
-use crate::built::{Forms, allows, allows_choice, allows_format};
 use crate::given::Part;
 use crate::last_choice::LastChoice;
 use crate::lines::{bytes_fault, is_report, is_skipped};
@@ -30,14 +29,11 @@ pub fn is_whole(part: Part) -> bool
 }
 
 impl<'a> Reading<'a> {
-    fn take_header(&mut self, forms: Forms, text: &[u8]) -> Result<(), Stop>
-        ensures { Tells result (said self.new) (take_header forms (said self.old) (header_of (words text.now))) }
+    fn take_header(&mut self, text: &[u8]) -> Result<(), Stop>
+        ensures { Tells result (said self.new) (take_header (said self.old) (header_of (words text.now))) }
     {
         match read_header(text) {
             Ok(format) => {
-                if !allows_format(forms, format) {
-                    return Err(Stop::Fault(Reason::NotBuilt));
-                }
                 self.part = Part::Settings;
                 self.format = format;
                 Ok(())
@@ -46,40 +42,13 @@ impl<'a> Reading<'a> {
         }
     }
 
-    // what is not built comes behind all other reasons
-    fn take_line(
-        &mut self,
-        alloc: Global,
-        forms: Forms,
-        number: u32,
-        text: &[u8],
-        line: &Line,
-    ) -> Result<(), Stop>
-        requires said { IsSaid (said self.old) }
-        requires line { IsLineSaid (said self.old).format (words text.now) line.now }
-        ensures { Tells result (said self.new) (take_line forms number (said self.old) (words text.now) (Ok line.now)) }
-    {
-        let allowed = allows(forms, self, line);
-        self.take(alloc, number, text, line)?;
-        if !allowed {
-            return Err(Stop::Fault(Reason::NotBuilt));
-        }
-        Ok(())
-    }
-
-    fn take_setting_line(
-        &mut self,
-        alloc: Global,
-        forms: Forms,
-        number: u32,
-        text: &[u8],
-    ) -> Result<(), Stop>
+    fn take_setting_line(&mut self, alloc: Global, number: u32, text: &[u8]) -> Result<(), Stop>
         requires said { IsSaid (said self.old) }
         requires bytes { bytes_fault text.now ≡ None }
-        ensures { Tells result (said self.new) (take_line forms number (said self.old) (words text.now) (line_of (settings_of (said self.old).format) (words text.now))) }
+        ensures { Tells result (said self.new) (take_line number (said self.old) (words text.now) (line_of (settings_of (said self.old).format) (words text.now))) }
     {
         match read_setting(self.format, text) {
-            Ok(line) => self.take_line(alloc, forms, number, text, &line),
+            Ok(line) => self.take(alloc, number, text, &line),
             Err(reason) => Err(Stop::Fault(reason)),
         }
     }
@@ -96,22 +65,16 @@ impl<'a> Reading<'a> {
         }
     }
 
-    fn take_choice_line(
-        &mut self,
-        alloc: Global,
-        forms: Forms,
-        number: u32,
-        text: &'a [u8],
-    ) -> Result<(), Stop>
+    fn take_choice_line(&mut self, alloc: Global, number: u32, text: &'a [u8]) -> Result<(), Stop>
         requires said { IsSaid (said self.old) }
         requires shown { is_skipped text.now ≡ false }
         requires bytes { bytes_fault text.now ≡ None }
-        ensures { Tells result (said self.new) (take_line forms number (said self.old) (words text.now) (line_of choices_table (words text.now))) }
+        ensures { Tells result (said self.new) (take_line number (said self.old) (words text.now) (line_of choices_table (words text.now))) }
     {
         match read_choice(text) {
             Ok(line) => {
                 self.keep_choice(text, &line);
-                self.take_line(alloc, forms, number, text, &line)
+                self.take(alloc, number, text, &line)
             }
             Err(reason) => Err(Stop::Fault(reason)),
         }
@@ -128,53 +91,37 @@ impl<'a> Reading<'a> {
     }
 
     // takes a choice that a line says once
-    fn take_once(&mut self, forms: Forms, number: u32, choice: Choice) -> Result<(), Stop>
-        ensures { (ws : List (List ℕ)) → Tells result (said self.new) (take_line forms number (said self.old) ws (Ok (Once choice))) }
+    fn take_once(&mut self, number: u32, choice: Choice) -> Result<(), Stop>
+        ensures { (ws : List (List ℕ)) → Tells result (said self.new) (take_line number (said self.old) ws (Ok (Once choice))) }
     {
-        self.take_choice(number, choice, 1)?;
-        if !allows_choice(forms, &choice) {
-            return Err(Stop::Fault(Reason::NotBuilt));
-        }
-        Ok(())
+        self.take_choice(number, choice, 1)
     }
 
-    fn take_words(
-        &mut self,
-        alloc: Global,
-        forms: Forms,
-        number: u32,
-        text: &'a [u8],
-    ) -> Result<(), Stop>
+    fn take_words(&mut self, alloc: Global, number: u32, text: &'a [u8]) -> Result<(), Stop>
         requires said { IsSaid (said self.old) }
         requires shown { is_skipped text.now ≡ false }
         requires bytes { bytes_fault text.now ≡ None }
-        ensures { Tells result (said self.new) (take_words (said self.old).part forms number (said self.old) (words text.now)) }
+        ensures { Tells result (said self.new) (take_words (said self.old).part number (said self.old) (words text.now)) }
     {
         match self.part {
-            Part::Start => self.take_header(forms, text),
-            Part::Settings => self.take_setting_line(alloc, forms, number, text),
-            Part::Making => self.take_choice_line(alloc, forms, number, text),
+            Part::Start => self.take_header(text),
+            Part::Settings => self.take_setting_line(alloc, number, text),
+            Part::Making => self.take_choice_line(alloc, number, text),
             Part::Whole => Err(Stop::Fault(Reason::AfterEnd)),
         }
     }
 
     /// Takes the next line, which has this number, or answers why it may not come. After that answer
     /// the reading is of no more use.
-    pub fn step(
-        &mut self,
-        alloc: Global,
-        forms: Forms,
-        number: u32,
-        line: &'a [u8],
-    ) -> Result<(), Stop>
+    pub fn step(&mut self, alloc: Global, number: u32, line: &'a [u8]) -> Result<(), Stop>
         requires { IsSaid (said self.old) }
-        ensures { Tells result (said self.new) (step forms number (said self.old) line.now) }
+        ensures { Tells result (said self.new) (step number (said self.old) line.now) }
     {
         if is_skipped(line) {
             return Ok(());
         }
         if let Some(choice) = self.choice_again(line) {
-            return self.take_once(forms, number, choice);
+            return self.take_once(number, choice);
         }
         if is_whole(self.part) {
             if is_report(line) {
@@ -184,7 +131,7 @@ impl<'a> Reading<'a> {
         }
         match bytes_fault(line) {
             Some(reason) => Err(Stop::Fault(reason)),
-            None => self.take_words(alloc, forms, number, line),
+            None => self.take_words(alloc, number, line),
         }
     }
 }

@@ -6,14 +6,11 @@ ghost use Rattle.xrf_scenario.specs.Machine.{read_whole, read_on};
 ghost use Rattle.xrf_scenario.specs.Held.{said, bad_of, Gives, IsBad};
 ghost use Rattle.xrf_scenario.specs.Said.{IsSaid};
 ghost use Rattle.xrf_scenario.specs.SoFar.{is_whole};
-ghost use Rattle.xrf_scenario.specs.Reading.{told, Reads, OneReading, NeverBoth, OneFault};
+ghost use Rattle.xrf_scenario.specs.Reading.{Reads, OneReading, NeverBoth, OneFault};
 ghost use Rattle.xrf_scenario.specs.Canonical.{AreChoices};
-ghost use Rattle.xrf_scenario.specs.Built.{IsBuilt, AreBuilt};
-ghost use Rattle.xrf_scenario.specs.declared.built.Forms.TheVariants.{All, Built};
 ghost use Rattle.xrf_scenario.specs.declared.numbered.Numbered.{Numbered};
 ghost use Rattle.xrf_scenario.specs.Settled.{by_number, scenario_of};
 
-use crate::built::Forms;
 use crate::lines::next_line;
 use crate::numbered::Numbered;
 use crate::read_bad::ReadBad;
@@ -27,34 +24,18 @@ use xrf_grammar::Reason;
 use xrf_setup::Scenario;
 use xrf_setup::ranges::{FILE_MOST, INPUT_MOST};
 
-// on the last line the want of END comes before what is not built
-fn told(reason: Reason, behind: &[u8]) -> Reason
-    ensures { result ≡ told (text_lines behind.now) reason }
-{
-    match next_line(behind) {
-        Some(_) => reason,
-        None => match reason {
-            Reason::NotBuilt => Reason::NoEnd,
-            _ => reason,
-        },
-    }
-}
-
-fn bad_of(stop: Stop, line: u32, behind: &[u8]) -> ReadBad
-    ensures { result ≡ bad_of stop line (text_lines behind.now) }
+fn bad_of(stop: Stop, line: u32) -> ReadBad
+    ensures { result ≡ bad_of stop line }
 {
     match stop {
-        Stop::Fault(reason) => ReadBad::Bad {
-            line,
-            reason: told(reason, behind),
-        },
+        Stop::Fault(reason) => ReadBad::Bad { line, reason },
         Stop::NoMemory => ReadBad::NoMemory,
     }
 }
 
-fn end_or_fault<'a>(forms: Forms, reading: Reading<'a>, count: u32) -> Result<Reading<'a>, ReadBad>
+fn end_or_fault<'a>(reading: Reading<'a>, count: u32) -> Result<Reading<'a>, ReadBad>
     requires { IsSaid (said reading) }
-    ensures gives { Gives result (read_on forms (said reading.entry) count []) }
+    ensures gives { Gives result (read_on (said reading.entry) count []) }
     ensures whole { IfOk result (λ r. IsSaid (said r) × (is_whole r.part ≡ true)) }
 {
     if is_whole(reading.part) {
@@ -66,9 +47,9 @@ fn end_or_fault<'a>(forms: Forms, reading: Reading<'a>, count: u32) -> Result<Re
     })
 }
 
-fn read_lines<'a>(alloc: Global, forms: Forms, text: &'a [u8]) -> Result<Reading<'a>, ReadBad>
+fn read_lines<'a>(alloc: Global, text: &'a [u8]) -> Result<Reading<'a>, ReadBad>
     requires { length text.now ≤ INPUT_MOST }
-    ensures gives { Gives result (read_whole forms text.now) }
+    ensures gives { Gives result (read_whole text.now) }
     ensures whole { IfOk result (λ r. IsSaid (said r) × (is_whole r.part ≡ true)) }
 {
     let mut reading = Reading::new(alloc)?;
@@ -76,13 +57,13 @@ fn read_lines<'a>(alloc: Global, forms: Forms, text: &'a [u8]) -> Result<Reading
     let mut count = 0u32;
     'lines: while let Some((line, behind)) = next_line(rest) {
         count += 1;
-        match reading.step(alloc, forms, count, line) {
+        match reading.step(alloc, count, line) {
             Ok(()) => {}
-            Err(stop) => return Err(bad_of(stop, count, behind)),
+            Err(stop) => return Err(bad_of(stop, count)),
         }
         rest = behind;
     }
-    end_or_fault(forms, reading, count)
+    end_or_fault(reading, count)
 }
 
 fn by_number(alloc: Global, places: &[Option<Value>]) -> Result<Vec<(u16, Value)>, AllocError>
@@ -127,33 +108,16 @@ fn parts<'a>(alloc: Global, reading: Reading<'a>) -> Result<(Scenario, Vec<Numbe
 
 /// The scenario and the choices that a text spells, each choice with the number of its line; else
 /// the first bad line, counted from 1, with its first reason. A text is of at most 4,194,304 bytes.
-/// Lines that may not come, of these forms, are bad.
-pub fn read_forms(
-    alloc: Global,
-    forms: Forms,
-    text: &[u8],
-) -> Result<(Scenario, Vec<Numbered>), ReadBad>
+pub fn read(alloc: Global, text: &[u8]) -> Result<(Scenario, Vec<Numbered>), ReadBad>
     requires { length text.now ≤ INPUT_MOST }
-    ensures found { IfOk result (λ r. Reads forms text.now r.0 r.1.items) }
+    ensures found { IfOk result (λ r. Reads text.now r.0 r.1.items) }
     ensures choices { IfOk result (λ r. AreChoices (map (λ (n : Numbered). n.choice) r.1.items)) }
-    ensures built { forms ≡ Built → IfOk result (λ r. IsBuilt r.0 × AreBuilt (map (λ (n : Numbered). n.choice) r.1.items)) }
-    ensures bad { IfErr result (λ e. IsBad forms text.now e) }
+    ensures bad { IfErr result (λ e. IsBad text.now e) }
 {
-    match read_lines(alloc, forms, text) {
+    match read_lines(alloc, text) {
         Ok(reading) => Ok(parts(alloc, reading)?),
         Err(bad) => Err(bad),
     }
-}
-
-/// The scenario and the choices that a text spells, each choice with the number of its line; else
-/// the first bad line, counted from 1, with its first reason. A text is of at most 4,194,304 bytes.
-pub fn read(alloc: Global, text: &[u8]) -> Result<(Scenario, Vec<Numbered>), ReadBad>
-    requires { length text.now ≤ INPUT_MOST }
-    ensures found { IfOk result (λ r. Reads All text.now r.0 r.1.items) }
-    ensures choices { IfOk result (λ r. AreChoices (map (λ (n : Numbered). n.choice) r.1.items)) }
-    ensures bad { IfErr result (λ e. IsBad All text.now e) }
-{
-    read_forms(alloc, Forms::All, text)
 }
 
 /// A text is read in one way, no text is both read and refused, and it is refused in one way: so

@@ -12,7 +12,7 @@ pub lines-init : goal.lines-init
 lines-init c =
     let none : IsSaid nothing_said = search rules in
     record {
-      whole = ap (λ (so : SoFar). read_on c.args.forms so 0 (text_lines c.args.text.now)) c.in_ok-reading.ensures;
+      whole = ap (λ (so : SoFar). read_on so 0 (text_lines c.args.text.now)) c.in_ok-reading.ensures;
       in_range = subst IsSaid (sym c.in_ok-reading.ensures) none;
       few = omega arith;
     }
@@ -20,8 +20,8 @@ lines-init c =
 pub lines-preserved : goal.lines-preserved
 lines-preserved c = record {
   whole =
-      sym (goes-on c.args.forms (said c.lines.reading) (said c.step.new.self) c.lines.count c.in-Some.line.now (text_lines c.in-Some.behind.now) c.in-Ok.ensures)
-      ∙ ap (read_on c.args.forms (said c.lines.reading) c.lines.count) (sym c.in-Some.ensures.first) ∙ c.lines.invariant.whole;
-  in_range = step-said c.args.forms (c.lines.count + 1) (said c.lines.reading) (said c.step.new.self) c.in-Some.line.now c.lines.invariant.in_range c.in-Ok.ensures;
+      sym (goes-on (said c.lines.reading) (said c.step.new.self) c.lines.count c.in-Some.line.now (text_lines c.in-Some.behind.now) c.in-Ok.ensures)
+      ∙ ap (read_on (said c.lines.reading) c.lines.count) (sym c.in-Some.ensures.first) ∙ c.lines.invariant.whole;
+  in_range = step-said (c.lines.count + 1) (said c.lines.reading) (said c.step.new.self) c.in-Some.line.now c.lines.invariant.in_range c.in-Ok.ensures;
   few = omega (arith, c.in-Some.ensures.shorter, c.lines.invariant.few);
 }

@@ -8,7 +8,7 @@ use Rattle.xrf_scenario.proofs.text.read_lines.Given as goal
 -- reading on with the lines that are left is reading the whole; each line has a byte at least
 abbrev pub invariant-lines : goal.invariant-lines
 invariant-lines l = record {
-  whole : read_on l.forms (said l.reading) l.count (text_lines l.rest) ≡ read_whole l.forms l.fn.text;
+  whole : read_on (said l.reading) l.count (text_lines l.rest) ≡ read_whole l.fn.text;
   in_range : IsSaid (said l.reading);
   few : l.count + length l.rest ≤ length l.fn.text;
 }

@@ -1,24 +1,19 @@
 -- What an act that a job wants asks of a World, and what it leaves: from the laws.
-use Rattle.std.proofs.Common.{◌≡◌, ◌≤◌, ◌<◌, ◌+◌, ◌-◌, ◌*◌, ◌^◌, ℕ, Bool, true, false, ◌||◌, ◌==◌, ◌∙◌, IsTrue, sym, ap, subst, refl, arith, nat_lt, if◌then◌else◌, is_some, List, [], ◌∷◌, length, Option, Some, None, IfSome, Ok, Err}
+use Rattle.std.proofs.Common.{◌≡◌, ◌≤◌, ◌<◌, ◌+◌, ◌-◌, ◌*◌, ◌^◌, ℕ, Bool, true, false, ◌||◌, ◌==◌, ◌∙◌, IsTrue, sym, ap, subst, refl, arith, nat_lt, if◌then◌else◌, List, ◌∷◌, length, Option, Some, None, IfSome, Ok, Err}
 use Rattle.std.proofs.lemmas.Grind.{common_steps}
 use Rattle.xrf_base.specs.declared.items.Item.{Item}
-use Rattle.xrf_base.specs.declared.items.ItemAnswer.{ItemAnswer}
 use Rattle.xrf_base.specs.declared.site.Site.{Site}
 use Rattle.xrf_base.specs.declared.site.Site.TheVariants as site
 use Rattle.xrf_active.specs.Taking.{LeavesRoom, HasSmallKeys}
 use Rattle.xrf_setup.specs.declared.ranges.TheConstants.{CHOICES_MOST}
 use Rattle.xrf_setup.specs.declared.choice.Choice.{Choice}
 use Rattle.xrf_setup.specs.declared.choice.Choice.TheVariants as choice
-use Rattle.xrf_setup.specs.declared.choice.Landing.{Landing}
-use Rattle.xrf_setup.specs.declared.choice.Landing.TheVariants as landing
-use Rattle.xrf_cavm.specs.declared.decisions.Decided.{Decided}
-use Rattle.xrf_history.specs.declared.answer.Answer.TheVariants as answer
 use Rattle.xrf_history.specs.declared.settings.Settings.{Settings}
 use Rattle.xrf_history.specs.declared.want.Want.{Want}
 use Rattle.xrf_history.specs.declared.want.Want.TheVariants as want
-use Rattle.xrf_history.specs.Accepting.{IsInTime, accepts, may_take}
-use Rattle.xrf_history.specs.Answers.{event, event_by, fits, may_fail as wanted_may_fail}
-use Rattle.xrf_history.specs.Events.{ActFailed, Event}
+use Rattle.xrf_history.specs.Accepting.{IsInTime, accepts}
+use Rattle.xrf_history.specs.Answers.{event, event_by, fits}
+use Rattle.xrf_history.specs.Events.{Event}
 use Rattle.xrf_history.specs.Holding.{is_granted, number}
 use Rattle.xrf_history.specs.Looking.{change}
 use Rattle.xrf_history.specs.Next.{next}
@@ -33,33 +28,32 @@ use Rattle.xrf_trace.specs.declared.entry.Land.{Land}
 use Rattle.xrf_trace.specs.declared.entry.Land.TheVariants as land
 use Rattle.xrf_trace.specs.declared.entry.Refused.{Refused}
 use Rattle.xrf_trace.specs.declared.entry.Refused.TheVariants.{NotEnabled}
-use Rattle.xrf_trace.specs.Acts.{act_of, act_by, next_act, is_signal, may_fail}
-use Rattle.xrf_trace.specs.Devices.{message_slot, control, log_block, key_slots}
+use Rattle.xrf_trace.specs.Acts.{act_of, act_by, next_act, is_signal}
+use Rattle.xrf_trace.specs.Devices.{message_slot, control}
 use Rattle.xrf_trace.specs.Each.{AtSite, OfJob}
 use Rattle.xrf_trace.specs.Entries.{entry, entry_at, act_or_none, inc_at, inc_of_act}
 use Rattle.xrf_trace.specs.Handing.{answer_of, block_answer, item_handed}
 use Rattle.xrf_trace.specs.Items.{answer_by}
 use Rattle.xrf_trace.specs.Jobs.{hist, handed, after_act, after_own, block_event, item_event}
-use Rattle.xrf_trace.specs.Refusals.{is_next, may_step, unless, torn_refusal, refusal}
+use Rattle.xrf_trace.specs.Refusals.{is_next, may_step, unless, refusal}
 use Rattle.xrf_trace.specs.Runs.{IsRun, outcome, outcome_of}
 use Rattle.xrf_trace.specs.Scenario.{Scen, IsScen, settings, work, item_at}
 use Rattle.xrf_trace.specs.Words.{is_of, is_item, now, items_taken, reserve_is_free, who_at}
 use Rattle.xrf_trace.proofs.HandingLaws.{acts_are_answered}
-use Rattle.xrf_trace.proofs.JobSteps.{want-tried}
 use Rattle.xrf_owner_law.specs.Known.{IsKnown}
 use Rattle.xrf_owner_law.proofs.KnownLaw.{known}
 use Rattle.xrf_log_law.proofs.LogLaw.{conditions-are-met, jobs-answer-alike}
-use Rattle.xrf_log_law.specs.Conditions.{IsWithin, AnchorIsSmall, WorldConditions}
+use Rattle.xrf_log_law.specs.Conditions.{IsWithin, AnchorIsSmall}
 use Rattle.xrf_message_law.specs.MayLand.{MayLand as SlotMayLand}
-use Rattle.xrf_world.specs.Making.{MayMake, IsMade, IsFailed, MayRead, inc_of_want, entry_of_want}
+use Rattle.xrf_world.specs.Making.{MayMake, IsMade, MayRead, inc_of_want, entry_of_want}
 use Rattle.xrf_world.specs.Standing.{Goes}
 use Rattle.xrf_world.specs.Wants as wants
-use Rattle.xrf_world.specs.Places.{CanTake, answer_given}
+use Rattle.xrf_world.specs.Places.{answer_given}
 use Rattle.xrf_world.specs.Seats.{MayBeHanded, after_want}
 use Rattle.xrf_world.specs.Wants.{while_left, is_item_left, wanted, wanted_by, may_make, act_of_want}
 use Rattle.xrf_world.proofs.FollowLaws.{of-item, of-act, slot-may, can-follow}
 use Rattle.xrf_world.proofs.TimeLaws.{IsBy, time-of}
-use Rattle.xrf_world.proofs.WantLaws.{step-same, signal-same, fail-same, fails-same}
+use Rattle.xrf_world.proofs.WantLaws.{step-same, signal-same}
 
 -- the next act of a site, of a kind: its job, and the act
 pub record NextAct (s : Scen) (t : List Entry) (x : Site) (kind : Act → Bool) : Type 0 where
@@ -114,7 +108,7 @@ pub inc-granted : (n last : ℕ) (granted : Bool) → (granted ≡ true → 1 �
 inc-granted n last true some none = let least : 1 ≤ n = some refl in grind (arith, common_steps)
 inc-granted n last false some none = let zero_it : n ≡ 0 = none refl in grind (arith, common_steps)
 
-inc-same : (s : Scen) (t : List Entry) (x : Site) (h : List Event) (w : Want) → (is_granted h ≡ true → 1 ≤ number h)
+pub inc-same : (s : Scen) (t : List Entry) (x : Site) (h : List Event) (w : Want) → (is_granted h ≡ true → 1 ≤ number h)
     → IfSome (act_of s t x h w) (λ a. inc_of_want w (number h) ≡ inc_of_act a h)
 inc-same s t x h want.Nothing some = tt
 inc-same s t x h (want.Exit told) some = tt
@@ -256,7 +250,7 @@ signal-silent p h (want.Signal2 signal) s t x = λ is. refl
 signal-silent p h _ s t x = λ is. absurd (cc)
 
 -- an item is taken only while one is left
-item-left : (s : Scen) (t : List Entry) (x : Site) (h : List Event) (w : Want)
+pub item-left : (s : Scen) (t : List Entry) (x : Site) (h : List Event) (w : Want)
     → IfSome (act_of s t x h w) (λ a. is_item a ≡ true → items_taken t x < length (work s x))
 item-left s t x h want.Nothing = tt
 item-left s t x h (want.Exit told) = tt
@@ -402,112 +396,3 @@ lose-made s t x g signal =
 
 pub lose-refused : (s : Scen) (t : List Entry) (x : Site) → wants.is_signal (wanted s t x) ≡ false → outcome s t (choice.Lose x) ≡ Err NotEnabled
 lose-refused s t x signal = ap (λ (b : Bool). outcome_of s t (choice.Lose x) (unless b NotEnabled)) (signal-same s t x ∙ signal)
-
--- FAIL: an act that fails is one that is neither a DECIDE nor an ITEM, and after which the job goes on.
-torn-fails : (w : Want) → is_some (wants.torn_size w) ≡ true → wanted_may_fail w ≡ true
-torn-fails (want.MsgClose k) torn = refl
-torn-fails (want.MsgBody k message) torn = refl
-torn-fails (want.MsgOpen k message) torn = refl
-torn-fails (want.LogClose p) torn = refl
-torn-fails (want.LogBody p rec) torn = refl
-torn-fails (want.LogOpen p rec) torn = refl
-torn-fails (want.KpClose k) torn = refl
-torn-fails (want.KpBody k keypoint) torn = refl
-torn-fails (want.KpOpen k keypoint) torn = refl
-torn-fails (want.FileWrite unit k value) torn = refl
-torn-fails (want.Undo k before) torn = refl
-torn-fails _ torn = absurd (cc)
-
-pub unless-met : (b : Bool) (why : Refused) → unless b why ≡ None → b ≡ true
-unless-met true why ok = refl
-unless-met false why ok = absurd (cc)
-
-pub torn-some : (bytes : List ℕ) (size : Option ℕ) → torn_refusal bytes size ≡ None → is_some size ≡ true
-torn-some bytes None ok = absurd (cc)
-torn-some bytes (Some n) ok = refl
-
-fail-met : (cut : Landing) (w : Want) → wants.fail_refusal cut w ≡ None → wanted_may_fail w ≡ true
-fail-met landing.Nothing w ok = unless-met (wanted_may_fail w) NotEnabled ok
-fail-met landing.All w ok = torn-fails w (unless-met (is_some (wants.torn_size w)) NotEnabled ok)
-fail-met (landing.Torn bytes) w ok = torn-fails w (torn-some bytes (wants.torn_size w) ok)
-
-act-fails : (s : Scen) (t : List Entry) (x : Site) (h : List Event) (w : Want) (n : ℕ) (d : Option Decided)
-    → IfSome (act_of s t x h w) (λ a. wanted_may_fail w ≡ true → act_of_want n d w ≡ a)
-act-fails s t x h want.Nothing n d = tt
-act-fails s t x h (want.Exit told) n d = tt
-act-fails s t x h want.Item n d = of-item s t x (λ a. wanted_may_fail want.Item ≡ true → act_of_want n d want.Item ≡ a) (λ may. absurd (cc))
-act-fails s t x h want.Decide n d = λ may. absurd (cc)
-act-fails s t x h _ n d = λ may. refl
-
-goes-on : (w : Want) (h : List Event) → wanted_may_fail w ≡ true → after_want w h ≡ Some h
-goes-on (want.Ended reason) h may = absurd (cc)
-goes-on _ h may = refl
-
-fits-failed : (p : Settings) (h : List Event) (at : ℕ) (w : Want) → wanted_may_fail w ≡ true → fits p h w (answer.Failed at) ≡ true
-fits-failed p h at w may = grind (arith, common_steps)
-
-abbrev may-fail : (s : Scen) (t : List Entry) (x : Site) (h : List Event) (a : Act) (cut : Landing) → Goes s t → IsRun s (made_entry s t x h a (land.Fail cut) ∷ t)
-    → hist s t x ≡ Some h → act_of s t x h (next (settings s x) h) ≡ Some a → may_fail a ≡ true → wanted_may_fail (next (settings s x) h) ≡ true
-    → MayMake s t x (next (settings s x) h) (land.Fail cut) (answer.Failed (now t))
-may-fail s t x h a cut g is there wants fails may =
-    let w : Want = next (settings s x) h in
-    let time : IsBy (now t) (length t) h = time-of s t x h g.run there in
-    let k : IsKnown s t = known s t g.run (omega (arith, g.few)) in
-    record {
-      scen = g.scen;
-      job = h;
-      entry = made_entry s t x h a (land.Fail cut);
-      there = there;
-      handed = record {
-        fitting = or-right (accepts (settings s x) h (answer.Failed (now t))) (fits (settings s x) h w (answer.Failed (now t))) (fits-failed (settings s x) h (now t) w may);
-        few = omega (arith, time.few, g.few);
-        in_time = tt;
-        room = tt;
-        small_keys = tt;
-      };
-      is_entry =
-          ap (λ (i : ℕ). record {
-            tick = now t;
-            who = who_at x;
-            inc = i;
-            act = act_of_want (items_taken t x + 1)
-                (last_decision (event (settings s x) h (answer.Failed (now t)) ∷ h)) w;
-            land = land.Fail cut;
-          })
-          (of-act s t x h a (λ one. inc_of_want w (number h) ≡ inc_of_act one h) (inc-same s t x h w (λ granted. (k.held x h there granted).some)) wants)
-          ∙ ap (λ (one : Act). record { tick = now t; who = who_at x; inc = inc_of_act a h; act = one; land = land.Fail cut })
-          (of-act s t x h a (λ one. wanted_may_fail w ≡ true → act_of_want (items_taken t x + 1)
-          (last_decision (event (settings s x) h (answer.Failed (now t)) ∷ h)) w ≡ one)
-          (act-fails s t x h w (items_taken t x + 1) (last_decision (event (settings s x) h (answer.Failed (now t)) ∷ h))) wants may);
-      after = own-hist s t x (inc_of_act a h) a (land.Fail cut)
-          ∙ ap (after_own s t x (now t) a (land.Fail cut)) there
-          ∙ ap (λ (one : Want). Some (ActFailed one (now t) ∷ h)) (want-tried s t x h w a wants fails)
-          ∙ sym (goes-on w (ActFailed w (now t) ∷ h) may);
-      records = record {
-        follow = can-follow s t (made_entry s t x h a (land.Fail cut)) g.scen is g.few;
-        items = record {
-          own = own-site x;
-          left = of-act s t x h a (λ one. is_item one ≡ true → items_taken t x < length (work s x)) (item-left s t x h w) wants;
-          gives = refl;
-        };
-      };
-    }
-
-pub fail-made : (s : Scen) (t : List Entry) (x : Site) (cut : Landing) → Goes s t → wants.fail_refusal cut (wanted s t x) ≡ None
-    → IsFailed s t x (wanted s t x) cut (choice.Fail x cut)
-fail-made s t x cut g ok =
-    let met : is_next may_fail (next_act s t x) ≡ true = fails-same s t x ∙ fail-met cut (wanted s t x) ok in
-    let n : NextAct s t x may_fail = next-there s t x may_fail met in
-    let out : outcome s t (choice.Fail x cut) ≡ Ok (made_entry s t x n.job n.made (land.Fail cut)) =
-    outcome-is s t (choice.Fail x cut) None (made_entry s t x n.job n.made (land.Fail cut)) (fail-same s t x cut ∙ ok) refl
-    (entry-next s t x n.job n.made (land.Fail cut) n.there n.wants) in
-    let is : next (settings s x) n.job ≡ wanted s t x = wanted-is s t x n.job n.made n.there n.wants in
-    subst (λ (w : Want). IsFailed s t x w cut (choice.Fail x cut)) is (record {
-      may = may-fail s t x n.job n.made cut g (g.run, (choice.Fail x cut, out)) n.there n.wants n.met
-          (subst (λ (w : Want). wanted_may_fail w ≡ true) (sym is) (fail-met cut (wanted s t x) ok));
-      is = out;
-    })
-
-pub fail-refused : (s : Scen) (t : List Entry) (x : Site) (cut : Landing) (why : Refused) → wants.fail_refusal cut (wanted s t x) ≡ Some why
-    → outcome s t (choice.Fail x cut) ≡ Err why
-fail-refused s t x cut why refused = ap (outcome_of s t (choice.Fail x cut)) (fail-same s t x cut ∙ refused)

@@ -3,6 +3,7 @@ pub mod WantLaws
 pub mod TimeLaws
 pub mod FollowLaws
 pub mod ActLaws
+pub mod FailLaws
 pub mod StopLaws
 pub mod ReachLaws
 pub mod BesideLaws

@@ -28,7 +28,8 @@ use Rattle.xrf_world.specs.Making.{IsStopped, cut_of_want, inc_of_want}
 use Rattle.xrf_world.specs.Standing.{Goes}
 use Rattle.xrf_world.specs.Wants as wants
 use Rattle.xrf_world.specs.Wants.{while_left, is_item_left, wanted, wanted_by, act_of_want}
-use Rattle.xrf_world.proofs.ActLaws.{inc-granted, own-hist, own-site, outcome-is, torn-some, unless-met}
+use Rattle.xrf_world.proofs.ActLaws.{inc-granted, own-hist, own-site, outcome-is}
+use Rattle.xrf_world.proofs.FailLaws.{torn-some, unless-met}
 use Rattle.xrf_world.proofs.FollowLaws.{can-follow}
 use Rattle.xrf_world.proofs.WantLaws.{by-item, by-want, stop-same}
 use Rattle.xrf_history.proofs.Holding.{number-none}

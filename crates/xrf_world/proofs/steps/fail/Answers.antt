@@ -6,7 +6,7 @@ use Rattle.xrf_trace.specs.declared.entry.Land.TheVariants as land
 use Rattle.xrf_trace.specs.Words.{now}
 use Rattle.xrf_world.specs.Making.{IsFailed, MayMake}
 use Rattle.xrf_world.specs.Wants.{fail_refusal, wanted}
-use Rattle.xrf_world.proofs.ActLaws.{fail-made, fail-refused}
+use Rattle.xrf_world.proofs.FailLaws.{fail-made, fail-refused}
 use Rattle.xrf_world.proofs.MadeLaws.{MakesEntry, act-made}
 use Rattle.xrf_world.proofs.steps.fail.Goals as goal
 

@@ -16,7 +16,7 @@ use Rattle.xrf_trace.specs.FileIsBook.{IsBookAt}
 use Rattle.xrf_trace.specs.Entries.{entry}
 use Rattle.xrf_trace.specs.Log.{log}
 use Rattle.xrf_trace.specs.Promises.{Promises}
-use Rattle.xrf_trace.specs.Refusals.{exit_refusal, unless}
+use Rattle.xrf_trace.specs.Refusals.{exit_refusal, refusal, unless}
 use Rattle.xrf_trace.specs.Runs.{IsRun, outcome, outcome_of}
 use Rattle.xrf_trace.specs.Safe.{Safe}
 use Rattle.xrf_trace.specs.Scenario.{IsScen, Scen}
@@ -100,13 +100,6 @@ allowed-made : (told : Option Notice) (one : Notice) (said : ExitAnswer) → tol
 allowed-made None one said is may = absurd (cc)
 allowed-made (Some told) one said is may = grind (arith, is, may)
 
-accepted-made : (old new : Run) (r : Result Entry Refused) (e : Entry) (result : Result (Unit {0}) Refused) → r ≡ Ok e → Made old r result new → Made old r (Ok tt) new
-accepted-made old new (Ok made) e result is m = (refl, m.1)
-accepted-made old new (Err why) e result is m = absurd (cc)
-
-pub exit-said : (old new : Run) (x : Site) (said : ExitAnswer) (told : Notice) (result : Result (Unit {0}) Refused) → notice_at old.scenario old.trace x ≡ Some told
-    → IsTrue (is_allowed told said) → Applied old (choice.Exit x said) result new → Applied old (choice.Exit x said) (Ok tt) new
-exit-said old new x said told result pending may applied =
-    let is : outcome old.scenario old.trace (choice.Exit x said) ≡ Ok (entry old.scenario old.trace (choice.Exit x said)) =
-    ap (outcome_of old.scenario old.trace (choice.Exit x said)) (allowed-made (notice_at old.scenario old.trace x) told said pending may) in
-    accepted-made old new (outcome old.scenario old.trace (choice.Exit x said)) (entry old.scenario old.trace (choice.Exit x said)) result is applied
+pub exit-accepted : (s : Scen) (t : List Entry) (x : Site) (said : ExitAnswer) (told : Notice) → notice_at s t x ≡ Some told → IsTrue (is_allowed told said)
+    → refusal s t (choice.Exit x said) ≡ None
+exit-accepted s t x said told pending may = allowed-made (notice_at s t x) told said pending may

@@ -1,8 +1,9 @@
 //! One choice to a pair: a tick, a confirmation, or a choice of a site.
 
-ghost use Rattle.std.specs.Prelude.{◌≡◌, List, Some, Ok};
+ghost use Rattle.std.specs.Prelude.{◌≡◌, List, Some, None, Ok};
 ghost use Rattle.xrf_setup.specs.declared.choice.Choice.TheVariants as choice;
 ghost use Rattle.xrf_trace.specs.declared.entry.Entry.{Entry as Made};
+ghost use Rattle.xrf_trace.specs.Refusals.{refusal};
 ghost use Rattle.xrf_trace.specs.Words.{reserve_is_free};
 ghost use Rattle.xrf_world.specs.Making.{Makes, MakesAt, site_of};
 ghost use Rattle.xrf_world.specs.Standing.{StandsAt, Stands, Goes};
@@ -10,11 +11,12 @@ ghost use Rattle.xrf_world.specs.Standing.{StandsAt, Stands, Goes};
 use crate::middle::Middle;
 use crate::pair::Pair;
 use crate::place::Place;
-use crate::reaching::{abend, command, exit, reply};
+use crate::reaching::{abend, command, exit, exit_said, reply};
 use crate::starting::{start_active, start_standby};
 use crate::steps::{fail, lose, step};
 use crate::stopping::stop;
 use xrf_base::{Inc, Site};
+use xrf_exit::ExitAnswer;
 use xrf_setup::Choice;
 use xrf_trace::{Act, Entry, Land, Refused, Who};
 
@@ -85,6 +87,20 @@ impl Pair {
         match site {
             Site::A => choose_at(&mut self.middle, &mut self.a, site, choice, is_free),
             Site::B => choose_at(&mut self.middle, &mut self.b, site, choice, is_free),
+        }
+    }
+
+    /// An EXIT that is not refused.
+    pub(crate) fn exit_said(&mut self, site: Site, said: ExitAnswer) -> Entry
+        requires { (t : List Made) × Stands self.old t × Goes self.old.middle.scenario t
+            × (refusal self.old.middle.scenario t (choice.Exit site said) ≡ None) }
+        ensures { (t : List Made) → Stands self.old t → Goes self.old.middle.scenario t
+            → refusal self.old.middle.scenario t (choice.Exit site said) ≡ None
+            → Makes self.old t (choice.Exit site said) (Ok result) self.new }
+    {
+        match site {
+            Site::A => exit_said(&mut self.middle, &mut self.a, site, said),
+            Site::B => exit_said(&mut self.middle, &mut self.b, site, said),
         }
     }
 

@@ -1,9 +1,10 @@
 //! The choices that reach a job: ABEND, REPLY, CEBT and EXIT.
 
-ghost use Rattle.std.specs.Prelude.{List, Ok};
+ghost use Rattle.std.specs.Prelude.{◌≡◌, List, None, Ok};
 ghost use Rattle.xrf_setup.specs.declared.choice.Choice.{Choice as Chosen};
 ghost use Rattle.xrf_setup.specs.declared.choice.Choice.TheVariants as choice;
 ghost use Rattle.xrf_trace.specs.declared.entry.Entry.{Entry as Made};
+ghost use Rattle.xrf_trace.specs.Refusals.{refusal};
 ghost use Rattle.xrf_world.specs.Making.{MakesAt, IsReached};
 ghost use Rattle.xrf_world.specs.Standing.{StandsAt, Goes};
 
@@ -91,6 +92,29 @@ pub(crate) fn command(
     ))
 }
 
+/// An EXIT that is not refused.
+pub(crate) fn exit_said(
+    middle: &mut Middle,
+    place: &mut Place,
+    site: Site,
+    said: ExitAnswer,
+) -> Entry
+    requires { (t : List Made) × StandsAt middle.old place.old t site × Goes middle.old.scenario t
+        × (refusal middle.old.scenario t (choice.Exit site said) ≡ None) }
+    ensures { (t : List Made) → StandsAt middle.old place.old t site → Goes middle.old.scenario t
+        → refusal middle.old.scenario t (choice.Exit site said) ≡ None
+        → MakesAt middle.old place.old t site (choice.Exit site said) (Ok result) middle.new place.new }
+{
+    let at = middle.counts.tick;
+    reach(
+        middle,
+        place,
+        site,
+        Act::Exit(said),
+        &Answer::Exit(said, at),
+    )
+}
+
 /// EXIT.
 pub(crate) fn exit(
     middle: &mut Middle,
@@ -104,15 +128,6 @@ pub(crate) fn exit(
 {
     match exit_refused(place.seat.notice(), said) {
         Some(reason) => Err(reason),
-        None => {
-            let at = middle.counts.tick;
-            Ok(reach(
-                middle,
-                place,
-                site,
-                Act::Exit(said),
-                &Answer::Exit(said, at),
-            ))
-        }
+        None => Ok(exit_said(middle, place, site, said)),
     }
 }

@@ -1,6 +1,6 @@
 //! The World: a scenario at work, with the journal of what has happened.
 
-ghost use Rattle.std.specs.Prelude.{◌≡◌, ◌<◌, ◌≤◌, [], ◌∷◌, ◌++◌, Some, Ok, IfOk, IsTrue, length, reverse, vec_len, vec_capacity};
+ghost use Rattle.std.specs.Prelude.{◌≡◌, ◌<◌, ◌≤◌, [], ◌∷◌, ◌++◌, Some, None, Ok, IfOk, IsTrue, length, reverse, vec_len, vec_capacity};
 ghost use Rattle.xrf_exit.specs.Exit.{is_allowed};
 ghost use Rattle.xrf_exit.specs.declared.Notice.{Notice as Told};
 ghost use Rattle.xrf_log.specs.Flight.{flight};
@@ -8,6 +8,7 @@ ghost use Rattle.xrf_setup.specs.declared.choice.Choice.TheVariants as choice;
 ghost use Rattle.xrf_trace.specs.FileIsBook.{IsBookAt};
 ghost use Rattle.xrf_trace.specs.Log.{log};
 ghost use Rattle.xrf_trace.specs.Promises.{Promises};
+ghost use Rattle.xrf_trace.specs.Refusals.{refusal};
 ghost use Rattle.xrf_trace.specs.Runs.{IsRun};
 ghost use Rattle.xrf_trace.specs.Safe.{Safe};
 ghost use Rattle.xrf_trace.specs.Scenario.{IsScen};
@@ -63,6 +64,19 @@ fn advance(pair: &mut Pair, journal: &mut Vec<Entry>, choice: &Choice) -> Result
     }
 }
 
+// an EXIT that is not refused, and its entry
+fn add_exit(pair: &mut Pair, journal: &mut Vec<Entry>, site: Site, said: ExitAnswer)
+    requires world { IsWorld pair.old journal.old.items (vec_capacity journal.old) }
+    requires room { length journal.old.items < CHOICES_MOST }
+    requires accepted { refusal pair.old.middle.scenario (reverse journal.old.items) (choice.Exit site said) ≡ None }
+    ensures world { IsWorld pair.new journal.new.items (vec_capacity journal.new) }
+    ensures applied { Applied (record { scenario = pair.old.middle.scenario; trace = reverse journal.old.items }) (choice.Exit site said) (Ok tt)
+        (record { scenario = pair.new.middle.scenario; trace = reverse journal.new.items }) }
+{
+    let made = pair.exit_said(site, said);
+    push_entry(journal, made);
+}
+
 impl World {
     /// A World before the first choice. It takes all memory that a run needs.
     pub fn new(alloc: Global, scenario: &Scenario) -> Result<World, AllocError>
@@ -96,11 +110,7 @@ impl World {
         ensures promises { Promises self.new.scenario self.new.trace }
         ensures book { flight (log self.new.trace) ≡ [] → IsBookAt self.new.scenario self.new.trace }
     {
-        let _ = advance(
-            &mut self.pair,
-            &mut self.journal,
-            &Choice::Exit(site, answer),
-        );
+        add_exit(&mut self.pair, &mut self.journal, site, answer);
     }
 
     /// The journal, the oldest entry first: that of a run.

@@ -1,19 +1,14 @@
-use Rattle.std.proofs.Common.{◌≡◌, ◌∙◌, ℕ, Option, None, ap, subst, sym}
+use Rattle.std.proofs.Common.{◌≡◌, ◌∙◌, Option, None, ap, sym}
 use Rattle.std.specs.Option.{option_and_then}
 use Rattle.xrf_exit.specs.declared.Notice.{Notice}
-use Rattle.xrf_setup.specs.declared.choice.Choice.TheVariants as choice
-use Rattle.xrf_history.specs.declared.answer.Answer.TheVariants as answer
 use Rattle.xrf_history.specs.Notices.{notice}
-use Rattle.xrf_trace.specs.declared.entry.Act.TheVariants as act
 use Rattle.xrf_trace.specs.Jobs.{hist}
 use Rattle.xrf_trace.specs.Refusals.{exit_refusal}
 use Rattle.xrf_trace.specs.Scenario.{settings}
-use Rattle.xrf_world.specs.Making.{IsReached}
-use Rattle.xrf_world.proofs.ReachLaws.{exit-made}
 use Rattle.xrf_world.proofs.reaching.exit.Goals as goal
 
-pub reach-requires : goal.reach-requires
-reach-requires c =
+pub exit_said-requires : goal.exit_said-requires
+exit_said-requires c =
     let s = c.args.middle.now.scenario in
     let x = c.args.site in
     let said = c.args.said in
@@ -21,13 +16,8 @@ reach-requires c =
     let met : exit_refusal (option_and_then notice (hist s t x)) said ≡ None =
     sym (c.exit_refused.ensures
     ∙ ap (λ (told : Option Notice). exit_refusal told said) (c.notice.ensures (settings s x) (hist s t x) c.requires.1.place.seat))
-    ∙ c.in-None.is in (
-      t,
-      choice.Exit x said,
-      c.requires.1,
-      subst (λ (n : ℕ). IsReached s t x (act.Exit said) (answer.Exit said n) (choice.Exit x said))
-          (sym c.requires.1.middle.counts.tick) (exit-made s t x said c.requires.2 met),
-    )
+    ∙ c.in-None.is in
+    (t, c.requires.1, c.requires.2, met)
 
 pub returns-in-None : goal.returns-in-None
 returns-in-None c = λ t stands g.
@@ -38,5 +28,4 @@ returns-in-None c = λ t stands g.
     sym (c.exit_refused.ensures
     ∙ ap (λ (told : Option Notice). exit_refusal told said) (c.notice.ensures (settings s x) (hist s t x) stands.place.seat))
     ∙ c.in-None.is in
-    c.reach.ensures t (choice.Exit x said) stands (subst (λ (n : ℕ). IsReached s t x (act.Exit said) (answer.Exit said n) (choice.Exit x said))
-    (sym stands.middle.counts.tick) (exit-made s t x said g met))
+    c.exit_said.ensures t stands g met

@@ -4,7 +4,7 @@ from functools import lru_cache
 from pathlib import Path
 
 NAME = r"[A-Za-z_][\w']*"
-DEFINED = re.compile(rf"(?:abbrev )?(?:pub )?(?:abbrev |def )?(record |data )?({NAME}) *(?::|\(|where|$)")
+DEFINED = re.compile(rf"(?:abbrev |unfoldable )?(?:pub )?(?:abbrev |def )?(record |data )?({NAME}) *(?::|\(|where|$)")
 IMPORTED = re.compile(r"(?:pub )?use (Rattle\.[\w.]+?)(?:\.\{(.*)\})?(?: as (\w+))?\s*$")
 # a word that is no field of what stands before it, with the names that it is a path of
 WORD = re.compile(rf"(?<![\w'.]){NAME}(?:\.{NAME})*")

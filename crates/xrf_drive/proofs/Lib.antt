@@ -1,0 +1,5 @@
+pub mod ValueLaws
+pub mod UnitLaws
+pub mod LeastLaws
+pub mod TurnLaws
+pub mod DriveLaws

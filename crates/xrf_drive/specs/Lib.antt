@@ -1,0 +1,4 @@
+pub mod Scenario
+pub mod Turns
+pub mod Drawn
+pub mod Tries

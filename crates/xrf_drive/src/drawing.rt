@@ -1,0 +1,154 @@
+//! One turn of the generated run: the choice that a word draws, or what is made in its place.
+
+ghost use Rattle.std.specs.Prelude.{◌≡◌, ◌<◌, ◌%◌, Bool, true, false, is_some, length, Some, None, Ok};
+ghost use Rattle.xrf_setup.specs.declared.choice.Choice.TheVariants as choice;
+ghost use Rattle.xrf_drive.specs.Turns.{choice_or, drawn_choice, exit_answer, exit_at, exit_of_any, exit_or_step, if_enabled, in_its_place, least_confirmable, step_at, step_of_any, turn};
+ghost use Rattle.xrf_drive.specs.Tries.{Tried};
+ghost use Rattle.xrf_world.specs.Report.{IsLeast, may_be_confirmed};
+ghost use Rattle.xrf_world.specs.Runs.{Applied};
+
+use xrf_base::{Inc, Site};
+use xrf_exit::{ExitAnswer, Notice};
+use xrf_setup::ranges::CHOICES_MOST;
+use xrf_setup::{Choice, Landing};
+use xrf_world::World;
+
+fn least_confirmable(world: &World) -> Option<Inc>
+    ensures { result ≡ least_confirmable world.now.scenario world.now.trace }
+{
+    world.least_confirmable()
+}
+
+// the choice that a byte draws
+fn drawn(world: &World, byte: u8) -> Option<Choice>
+    ensures { result ≡ drawn_choice (least_confirmable world.now.scenario world.now.trace) byte }
+{
+    match byte {
+        0..=119 => Some(Choice::Step(Site::A)),
+        120..=239 => Some(Choice::Step(Site::B)),
+        240..=243 => Some(Choice::Tick),
+        244 => Some(Choice::Lose(Site::A)),
+        245 => Some(Choice::Lose(Site::B)),
+        246 => Some(Choice::Stop(Site::A, Landing::Nothing)),
+        247 => Some(Choice::Stop(Site::B, Landing::Nothing)),
+        248 => Some(Choice::StartActive(Site::A)),
+        249 => Some(Choice::StartStandby(Site::B)),
+        250 | 251 => least_confirmable(world).map(Choice::Confirm),
+        252 => Some(Choice::StartStandby(Site::A)),
+        253 => Some(Choice::StartActive(Site::B)),
+        254 | 255 => Some(Choice::Tick),
+    }
+}
+
+// makes a choice where there is one and it is enabled
+fn make(world: &mut World, drawn: Option<Choice>) -> bool
+    requires room { length world.old.trace < CHOICES_MOST }
+    ensures { Tried world.old (if_enabled world.old.scenario world.old.trace drawn) result world.new }
+{
+    match drawn {
+        Some(choice) => world.apply(&choice).is_ok(),
+        None => false,
+    }
+}
+
+fn exit_answer(notice: Notice) -> ExitAnswer
+    ensures { result ≡ exit_answer notice }
+{
+    match notice {
+        Notice::TakeoverSeen => ExitAnswer::Abend,
+        Notice::AlternateLost => ExitAnswer::Drop,
+    }
+}
+
+// EXIT at a site where a notice is pending there
+fn exit(world: &mut World, site: Site) -> bool
+    requires room { length world.old.trace < CHOICES_MOST }
+    ensures { Tried world.old (exit_at world.old.scenario world.old.trace site) result world.new }
+{
+    match world.notice(site) {
+        Some(notice) => {
+            world.exit_said(site, exit_answer(notice));
+            true
+        }
+        None => false,
+    }
+}
+
+// STEP of a site where it is enabled
+fn step(world: &mut World, site: Site) -> bool
+    requires room { length world.old.trace < CHOICES_MOST }
+    ensures { Tried world.old (step_at world.old.scenario world.old.trace site) result world.new }
+{
+    make(world, Some(Choice::Step(site)))
+}
+
+fn tick(world: &mut World)
+    requires room { length world.old.trace < CHOICES_MOST }
+    ensures { Applied world.old choice.Tick (Ok tt) world.new }
+{
+    let _ = world.apply(&Choice::Tick);
+}
+
+// EXIT at the first site where a notice is pending
+fn exit_of_any(world: &mut World) -> bool
+    requires room { length world.old.trace < CHOICES_MOST }
+    ensures { Tried world.old (exit_of_any world.old.scenario world.old.trace) result world.new }
+{
+    if exit(world, Site::A) {
+        return true;
+    }
+    exit(world, Site::B)
+}
+
+// STEP of the first site where it is enabled
+fn step_of_any(world: &mut World) -> bool
+    requires room { length world.old.trace < CHOICES_MOST }
+    ensures { Tried world.old (step_of_any world.old.scenario world.old.trace) result world.new }
+{
+    if step(world, Site::A) {
+        return true;
+    }
+    step(world, Site::B)
+}
+
+// an EXIT, else a STEP
+fn exit_or_step(world: &mut World) -> bool
+    requires room { length world.old.trace < CHOICES_MOST }
+    ensures { Tried world.old (exit_or_step world.old.scenario world.old.trace) result world.new }
+{
+    if exit_of_any(world) {
+        return true;
+    }
+    step_of_any(world)
+}
+
+// an EXIT, else a STEP, else TICK
+fn make_in_its_place(world: &mut World)
+    requires room { length world.old.trace < CHOICES_MOST }
+    ensures { Applied world.old (in_its_place world.old.scenario world.old.trace) (Ok tt) world.new }
+{
+    if exit_or_step(world) {
+        return;
+    }
+    tick(world);
+}
+
+// what is drawn, where it is there and enabled, else what takes its place
+fn make_or(world: &mut World, drawn: Option<Choice>)
+    requires room { length world.old.trace < CHOICES_MOST }
+    ensures { Applied world.old (choice_or world.old.scenario world.old.trace drawn) (Ok tt) world.new }
+{
+    if make(world, drawn) {
+        return;
+    }
+    make_in_its_place(world);
+}
+
+/// Makes the choice that the lowest byte of a word draws, or what takes its place: one entry is added.
+pub(crate) fn turn(world: &mut World, word: u32)
+    requires room { length world.old.trace < CHOICES_MOST }
+    ensures { Applied world.old (turn world.old.scenario world.old.trace word) (Ok tt) world.new }
+{
+    let choice = drawn(world, (word % 256) as u8);
+    make_or(world, choice);
+}

@@ -3,7 +3,7 @@ _xrf() {
   local word=${COMP_WORDS[COMP_CWORD]} verb=${COMP_WORDS[1]-}
   COMPREPLY=()
   if [ "$COMP_CWORD" -eq 1 ]; then
-    mapfile -t COMPREPLY < <(compgen -W "replay draw explain check build --help --version --program" -- "$word")
+    mapfile -t COMPREPLY < <(compgen -W "replay drive draw explain check build --help --version --program" -- "$word")
     return
   fi
   case $verb:$word in

@@ -1,3 +1,6 @@
 pub mod AnswerLaws
 pub mod OneLaws
 pub mod MadeLaws
+pub mod NumberLaws
+pub mod DrivenLaws
+pub mod EachLaws

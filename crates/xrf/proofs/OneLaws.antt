@@ -1,5 +1,5 @@
 -- At most one document, at most one refusal, and never both.
-use Rattle.std.proofs.Common.{String, ◌≡◌, ◌⊎◌, inl, inr, ℕ, Bool, List, slice_get, Option, Some, IfSome, MatchBool, Result, Ok, Err, refl, sym, ◌∙◌, ap, subst, arith}
+use Rattle.std.proofs.Common.{String, ◌≡◌, ◌⊎◌, inl, inr, ℕ, Bool, true, false, List, slice_get, Option, Some, None, IfSome, MatchBool, Result, Ok, Err, refl, sym, ◌∙◌, ap, subst, arith}
 use Rattle.std.specs.Global.{Global}
 use Rattle.xrf_edge.specs.Faults.{HasRisen}
 use Rattle.xrf_setup.specs.Scenario.{Scen}
@@ -12,7 +12,13 @@ use Rattle.xrf.specs.Refusals.{plain, Stops}
 use Rattle.xrf_trace.specs.declared.entry.Refused.{Refused as Why}
 use Rattle.xrf_trace.specs.declared.entry.Refused.TheVariants.{NotEnabled}
 use Rattle.xrf.specs.Made.{IsDocument}
-use Rattle.xrf.specs.Answer.{End, Replayed, ToldUsage, Answered, Complete, OneText, OneRefusal, NeverRefused}
+use Rattle.xrf.specs.Words.{is_replay, usage_line}
+use Rattle.xrf.specs.DriveWords.{drive_asked}
+use Rattle.xrf.specs.Driven.{Driven}
+use Rattle.xrf.specs.Refusals.{IsRefusal}
+use Rattle.xrf.specs.declared.drive_words.Asked.{Asked}
+use Rattle.xrf.specs.declared.refusal.Reason.{Reason}
+use Rattle.xrf.specs.Answer.{End, Said, Replayed, Unread, Answered, Complete, IsOr, OneText, OneRefusal, NeverRefused}
 use Rattle.xrf.specs.declared.refusal.Reason.TheVariants.{Grammar, Choosing}
 use Rattle.xrf.specs.declared.status.Status.{Status}
 use Rattle.xrf.specs.declared.status.Status.TheVariants.{Done, Refused, Usage, ReadFault, WriteFault, NoMemory}
@@ -83,8 +89,45 @@ replay_complete source source' sink sink' ReadFault bytes text is d quiet quiet'
 replay_complete source source' sink sink' WriteFault bytes text is d quiet quiet' answer = absurd (quiet' answer.cause)
 replay_complete source source' sink sink' NoMemory bytes text is d quiet quiet' answer = inr refl
 
+-- and of one that has a refusal
+replay_refused : (source source' sink sink' : End) (status : Status) (bytes : List ℕ) (number : ℕ) (reason : Reason) → source.bytes ≡ Some bytes → IsRefusal bytes number reason
+    → ¬ HasRisen source.faults source'.faults → ¬ HasRisen sink.faults sink'.faults → Replayed source source' sink sink' status → IsOr Refused status
+replay_refused source source' sink sink' Done bytes number reason is r quiet quiet' answer =
+    let writes = there _ source.bytes bytes is answer in absurd (never_refused bytes writes.text number reason writes.is r)
+replay_refused source source' sink sink' Refused bytes number reason is r quiet quiet' answer = inl refl
+replay_refused source source' sink sink' Usage bytes number reason is r quiet quiet' answer = absurd answer
+replay_refused source source' sink sink' ReadFault bytes number reason is r quiet quiet' answer = absurd (quiet answer.0)
+replay_refused source source' sink sink' WriteFault bytes number reason is r quiet quiet' answer = absurd (quiet' answer.cause)
+replay_refused source source' sink sink' NoMemory bytes number reason is r quiet quiet' answer = inr refl
+
+-- the answer to `drive` without a fault
+driven_whole : (asked : Asked) (sink sink' : End) (status : Status) → ¬ HasRisen sink.faults sink'.faults → Driven asked sink sink' status → IsOr Done status
+driven_whole asked sink sink' Done quiet answer = inl refl
+driven_whole asked sink sink' Refused quiet answer = absurd answer
+driven_whole asked sink sink' Usage quiet answer = absurd answer
+driven_whole asked sink sink' ReadFault quiet answer = absurd answer
+driven_whole asked sink sink' WriteFault quiet answer = absurd (quiet answer.cause)
+driven_whole asked sink sink' NoMemory quiet answer = inr refl
+
+-- what is said without a fault
+said_whole : (sink sink' : End) (text : List ℕ) (wanted status : Status) → ¬ HasRisen sink.faults sink'.faults → Said sink sink' text wanted status → status ≡ wanted
+said_whole sink sink' text wanted status quiet (inl said) = said.0
+said_whole sink sink' text wanted status quiet (inr failed) = absurd (quiet failed.1)
+
+-- what words other than `replay` are answered, by what they ask
+unread_at : (source source' sink sink' : End) (status : Status) (found asked : Option Asked) → found ≡ asked → Unread found source source' sink sink' status
+    → Unread asked source source' sink sink' status
+unread_at source source' sink sink' status found asked is answer = subst (λ (o : Option Asked). Unread o source source' sink sink' status) is answer
+
 pub complete : (words : List (String Global)) (source source' sink sink' : End) (status : Status) → Answered words source source' sink sink' status → Complete words source source' sink sink' status
-complete words source source' sink sink' status answered bytes text asked is d quiet quiet' =
-    let replayed : Replayed source source' sink sink' status =
-    subst (λ (b : Bool). MatchBool b (Replayed source source' sink sink' status) (ToldUsage source source' sink sink' status)) asked answered in
-    replay_complete source source' sink sink' status bytes text is d quiet quiet' replayed
+complete words source source' sink sink' status answered =
+    let replayed : is_replay words ≡ true → Replayed source source' sink sink' status =
+    λ asked. subst (λ (b : Bool). MatchBool b (Replayed source source' sink sink' status) (Unread (drive_asked words) source source' sink sink' status)) asked answered in
+    let unread : is_replay words ≡ false → Unread (drive_asked words) source source' sink sink' status =
+    λ asked. subst (λ (b : Bool). MatchBool b (Replayed source source' sink sink' status) (Unread (drive_asked words) source source' sink sink' status)) asked answered in
+    record {
+      document = λ bytes text asked is d quiet quiet'. replay_complete source source' sink sink' status bytes text is d quiet quiet' (replayed asked);
+      refusal = λ bytes number reason asked is r quiet quiet'. replay_refused source source' sink sink' status bytes number reason is r quiet quiet' (replayed asked);
+      drive = λ asked other is quiet. driven_whole asked sink sink' status quiet (unread_at source source' sink sink' status (drive_asked words) (Some asked) is (unread other)).1;
+      usage = λ other none quiet. said_whole sink sink' usage_line Usage status quiet (unread_at source source' sink sink' status (drive_asked words) None none (unread other)).1;
+    }

@@ -1,10 +1,14 @@
 -- What the top call answers, and what it has written then.
-use Rattle.std.specs.Prelude.{◌≡◌, ◌⊎◌, ℕ, true, List, [], Option, Some, IfSome, MatchBool, String}
+use Rattle.std.specs.Prelude.{◌≡◌, ◌⊎◌, ℕ, true, false, List, [], Option, Some, None, IfSome, MatchBool, String}
 use Rattle.std.specs.Global.{Global}
 use Rattle.std.specs.Io.KnownBytes.{Appends}
 use Rattle.xrf_edge.specs.Ends.{AppendsPrefix}
 use Rattle.xrf_edge.specs.Faults.{HasRisen}
+pub use Rattle.xrf.specs.Ends.{End}
 use Rattle.xrf.specs.Words.{is_replay, usage_line}
+use Rattle.xrf.specs.DriveWords.{drive_asked}
+use Rattle.xrf.specs.Driven.{Driven}
+use Rattle.xrf.specs.declared.drive_words.Asked.{Asked}
 use Rattle.xrf.specs.Refusals.{IsRefusal, refusal_line}
 use Rattle.xrf.specs.Made.{IsDocument}
 use Rattle.xrf.specs.declared.made.Made.{Made}
@@ -12,11 +16,6 @@ use Rattle.xrf.specs.declared.made.Made.TheVariants.{Document, Refusal, NoMemory
 use Rattle.xrf.specs.declared.refusal.Reason.{Reason}
 use Rattle.xrf.specs.declared.status.Status.{Status}
 use Rattle.xrf.specs.declared.status.Status.TheVariants.{Done, Refused, Usage, ReadFault, WriteFault, NoMemory}
-
--- an end, by the bytes that it tells (left in a source, held in a sink) and its count of faults
-pub record End : Type 0 where
-  pub bytes : Option (List ℕ)
-  pub faults : ℕ
 
 -- A text is written whole, and a status answered; or the sink's count has risen, and a front of it is written.
 abbrev pub Said : End → End → List ℕ → Status → Status → Type 0
@@ -63,8 +62,15 @@ Replayed source source' sink sink' NoMemory = sink' ≡ sink
 abbrev pub ToldUsage : End → End → End → End → Status → Type 0
 ToldUsage source source' sink sink' status = (source' ≡ source) × Said sink sink' usage_line Usage status
 
+-- The answer to words other than `replay`: to `drive` the summary of the generated run, and the source is left as it was; to all
+-- others the usage.
+abbrev pub Unread : Option Asked → End → End → End → End → Status → Type 0
+Unread (Some asked) source source' sink sink' status = (source' ≡ source) × Driven asked sink sink' status
+Unread None source source' sink sink' status = ToldUsage source source' sink sink' status
+
 abbrev pub Answered : List (String Global) → End → End → End → End → Status → Type 0
-Answered words source source' sink sink' status = MatchBool (is_replay words) (Replayed source source' sink sink' status) (ToldUsage source source' sink sink' status)
+Answered words source source' sink sink' status =
+    MatchBool (is_replay words) (Replayed source source' sink sink' status) (Unread (drive_asked words) source source' sink sink' status)
 
 -- a refusal is written, unless there is no memory for its text
 abbrev pub Refusing : End → End → ℕ → Reason → Status → Type 0
@@ -86,8 +92,22 @@ OneRefusal = (bytes : List ℕ) (number number' : ℕ) (reason reason' : Reason)
 abbrev pub NeverRefused : Type 0
 NeverRefused = (bytes text : List ℕ) (number : ℕ) (reason : Reason) → IsDocument bytes text → IsRefusal bytes number reason → ⊥
 
--- An input that has a document, read and written without a fault, is answered Done, or for want of memory.
-abbrev pub Complete : List (String Global) → End → End → End → End → Status → Type 0
-Complete words source source' sink sink' status =
-    (bytes text : List ℕ) → is_replay words ≡ true → source.bytes ≡ Some bytes → IsDocument bytes text
-    → ¬ HasRisen source.faults source'.faults → ¬ HasRisen sink.faults sink'.faults → (status ≡ Done) ⊎ (status ≡ NoMemory)
+-- Each input has one of them.
+abbrev pub HasOne : List ℕ → Type 0
+HasOne bytes = ((text : List ℕ) × IsDocument bytes text) ⊎ ((number : ℕ) × ((reason : Reason) × IsRefusal bytes number reason))
+
+abbrev pub HasAnswer : Type 0
+HasAnswer = (bytes : List ℕ) → HasOne bytes
+
+-- Without a fault of source and sink, `replay` of an input that has a document is answered Done, and of one that has a refusal
+-- Refused; `drive` is answered Done, and other words Usage; or the answer is want of memory.
+abbrev pub IsOr : Status → Status → Type 0
+IsOr wanted status = (status ≡ wanted) ⊎ (status ≡ NoMemory)
+
+pub record Complete (words : List (String Global)) (source source' sink sink' : End) (status : Status) : Type 0 where
+  pub document : (bytes text : List ℕ) → is_replay words ≡ true → source.bytes ≡ Some bytes → IsDocument bytes text
+      → ¬ HasRisen source.faults source'.faults → ¬ HasRisen sink.faults sink'.faults → IsOr Done status
+  pub refusal : (bytes : List ℕ) (number : ℕ) (reason : Reason) → is_replay words ≡ true → source.bytes ≡ Some bytes → IsRefusal bytes number reason
+      → ¬ HasRisen source.faults source'.faults → ¬ HasRisen sink.faults sink'.faults → IsOr Refused status
+  pub drive : (asked : Asked) → is_replay words ≡ false → drive_asked words ≡ Some asked → ¬ HasRisen sink.faults sink'.faults → IsOr Done status
+  pub usage : is_replay words ≡ false → drive_asked words ≡ None → ¬ HasRisen sink.faults sink'.faults → status ≡ Usage

@@ -2,6 +2,10 @@
 //! the whole trace.
 #![tactic(auto)]
 
+#[cfg(test)]
+mod drive_tests;
+mod drive_words;
+mod driven;
 mod made;
 mod refusal;
 mod running;

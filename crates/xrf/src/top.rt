@@ -3,8 +3,10 @@
 ghost use Rattle.std.specs.Prelude.{◌≡◌, ◌≤◌, false, true, nat_eq, string_bytes, codes};
 ghost use Rattle.std.specs.Cmp.Lexicographic.{pointwise};
 ghost use Rattle.xrf.specs.Words.{is_replay, usage_line};
-ghost use Rattle.xrf.specs.Answer.{End, Answered, Said, Refusing, WritesMade, Replayed, Complete, OneText, OneRefusal, NeverRefused};
+ghost use Rattle.xrf.specs.Answer.{End, Answered, Said, Refusing, WritesMade, Replayed, Complete, HasAnswer, OneText, OneRefusal, NeverRefused};
 
+use crate::drive_words::drive_asked;
+use crate::driven::drive;
 use crate::made::{Made, made_of};
 use crate::refusal::{Reason, refusal_text};
 use crate::status::Status;
@@ -31,7 +33,7 @@ fn asks_replay(words: &[String]) -> bool
 }
 
 // writes a text, and answers a status where it is written whole
-fn say<K: Sink>(sink: &mut K, text: &[u8], status: Status) -> Status
+pub(crate) fn say<K: Sink>(sink: &mut K, text: &[u8], status: Status) -> Status
     ensures { Said (record { bytes = K.held sink.old; faults = K.faults sink.old }) (record { bytes = K.held sink.new; faults = K.faults sink.new }) text.now status result }
 {
     match write_all(sink, text) {
@@ -79,17 +81,20 @@ fn answer<S: Source, K: Sink>(
     ensures answered { Answered words.now (record { bytes = S.left source.old; faults = S.faults source.old }) (record { bytes = S.left source.new; faults = S.faults source.new }) (record { bytes = K.held sink.old; faults = K.faults sink.old }) (record { bytes = K.held sink.new; faults = K.faults sink.new }) result }
 {
     if asks_replay(words) {
-        replay(alloc, source, sink)
-    } else {
-        say(sink, USAGE, Status::Usage)
+        return replay(alloc, source, sink);
+    }
+    match drive_asked(words) {
+        Some(asked) => drive(alloc, asked, sink),
+        None => say(sink, USAGE, Status::Usage),
     }
 }
 
 /// Answers the words that the program is called with. `replay` reads the source to its end, runs
 /// the scenario that it spells, and writes the document to the sink, or the line and the reason of
-/// its refusal. Other words are answered by the usage, and the source is left as it was. A fault of
-/// the source or the sink is answered only where its count of faults has risen, and want of memory
-/// only before anything is written.
+/// its refusal. `drive SEED N` writes the summary of the generated run of the seed with N turns, and
+/// the source is left as it was. Other words are answered by the usage, and the source is left too.
+/// A fault of the source or the sink is answered only where its count of faults has risen, and want
+/// of memory only before anything is written.
 pub fn batch<S: Source, K: Sink>(
     alloc: Global,
     words: &[String],
@@ -102,8 +107,9 @@ pub fn batch<S: Source, K: Sink>(
     answer(alloc, words, source, sink)
 }
 
-/// An input has at most one document, at most one refusal, and never both.
+/// An input has a document or a refusal, one at most of each, and never both.
 pub fn one_answer()
+    ensures each { HasAnswer }
     ensures text { OneText }
     ensures one { OneRefusal }
     ensures refusal { NeverRefused }

@@ -1,4 +1,5 @@
 use Rattle.xrf.proofs.OneLaws.{one_text, one_refusal, never_refused}
+use Rattle.xrf.proofs.EachLaws.{has_answer}
 use Rattle.xrf.proofs.top.one_answer.Goals as goal
 
 pub returns-clause-text : goal.returns-clause-text
@@ -9,3 +10,6 @@ returns-clause-refusal c = never_refused
 
 pub returns-clause-one : goal.returns-clause-one
 returns-clause-one c = one_refusal
+
+pub returns-clause-each : goal.returns-clause-each
+returns-clause-each c = has_answer

@@ -31,7 +31,7 @@ def scenarios() -> list[str]:
 
 
 def wants_program(command: str) -> bool:
-    return "replay" in command or " check " in command or ".in" in command
+    return re.search(r"replay| drive | check |\.in", command) is not None
 
 
 def is_current() -> bool:
@@ -140,7 +140,7 @@ class Links(unittest.TestCase):
             self.assertTrue(any(list(runs.ROOT.glob(folder + name)) for folder in folders), name)
 
     def test_files_that_pages_name_are_there(self) -> None:
-        pages = ["CONCEPTS", "TUTORIAL", "SCENARIOS", "REPORT", "FORMATS", "CONTRIBUTING"]
+        pages = ["CONCEPTS", "TUTORIAL", "SCENARIOS", "REPORT", "FORMATS", "PROVED", "CONTRIBUTING"]
         for page in ("README.md", *(f"docs/{name}.md" for name in pages), "examples/README.md", "CHANGELOG.md", "tools/editors/README.md"):
             text = (runs.ROOT / page).read_text()
             for name in re.findall(r"\]\(([^)]+)\)", text):

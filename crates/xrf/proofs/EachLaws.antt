@@ -12,8 +12,6 @@ use Rattle.xrf_scenario.specs.Reading.{Reads, SaysAll}
 use Rattle.xrf_scenario.specs.Said.{IsSaid}
 use Rattle.xrf_scenario.specs.Settled.{scenario_of}
 use Rattle.xrf_scenario.specs.SoFar.{SoFar, nothing_said}
-use Rattle.xrf_scenario.specs.declared.built.Forms.{Forms}
-use Rattle.xrf_scenario.specs.declared.built.Forms.TheVariants.{All}
 use Rattle.xrf_scenario.specs.declared.numbered.Numbered.{Numbered}
 use Rattle.xrf_scenario.proofs.HeldLaws.{choices-held}
 use Rattle.xrf_scenario.proofs.ReadingLaws.{bad-told, found-told, says-step}
@@ -31,15 +29,15 @@ use Rattle.xrf.specs.declared.refusal.Reason.{Reason}
 use Rattle.xrf.specs.declared.refusal.Reason.TheVariants.{Grammar, Choosing}
 
 -- lines that say something keep what is said within its bounds
-all-said : (forms : Forms) (count : ℕ) (so last : SoFar) (lines : List (List ℕ)) → IsSaid so → SaysAll forms count so lines last → IsSaid last
-all-said forms count so last [] said h = subst IsSaid (sym h) said
-all-said forms count so last (line ∷ lines) said h =
-    all-said forms (count + 1) h.0 last lines (step-said forms (count + 1) so h.0 line said (says-step forms (count + 1) so h.0 line h.1.0)) h.1.1
+all-said : (count : ℕ) (so last : SoFar) (lines : List (List ℕ)) → IsSaid so → SaysAll count so lines last → IsSaid last
+all-said count so last [] said h = subst IsSaid (sym h) said
+all-said count so last (line ∷ lines) said h =
+    all-said (count + 1) h.0 last lines (step-said (count + 1) so h.0 line said (says-step (count + 1) so h.0 line h.1.0)) h.1.1
 
 -- so what a text spells is a scenario, and choices that have lines
-spelled-whole : (bytes : List ℕ) (s : Scen) (choices : List Numbered) → Reads All bytes s choices → IsScen s × AreChoices (plain choices)
+spelled-whole : (bytes : List ℕ) (s : Scen) (choices : List Numbered) → Reads bytes s choices → IsScen s × AreChoices (plain choices)
 spelled-whole bytes s choices r =
-    let said : IsSaid r.last = all-said All 0 nothing_said r.last (text_lines bytes) nothing-said r.said in
+    let said : IsSaid r.last = all-said 0 nothing_said r.last (text_lines bytes) nothing-said r.said in
     (subst IsScen (sym r.scenario) (scen-said r.last said r.whole), choices-held r.last choices r.made said)
 
 -- a choice that is there has a line
@@ -48,7 +46,7 @@ numbered-there [] k c there = absurd (cc)
 numbered-there (n ∷ ns) zero c there = (n, refl)
 numbered-there (n ∷ ns) (suc k) c there = numbered-there ns k c there
 
-of-run : (bytes : List ℕ) (s : Scen) (choices : List Numbered) (o : Result (List Entry) Stopped) → length bytes ≤ INPUT_MOST → Reads All bytes s choices
+of-run : (bytes : List ℕ) (s : Scen) (choices : List Numbered) (o : Result (List Entry) Stopped) → length bytes ≤ INPUT_MOST → Reads bytes s choices
     → run s (plain choices) ≡ o → HasOne bytes
 of-run bytes s choices (Ok t) size reads ran =
     let whole = spelled-whole bytes s choices reads in
@@ -64,15 +62,15 @@ of-run bytes s choices (Err stop) size reads ran =
     let is : IsRefusal bytes there.0.line (Choosing stop.reason) = (size, stops) in
     inr (there.0.line, (Choosing stop.reason, is))
 
-of-text : (bytes : List ℕ) (o : Result SoFar Fault) → length bytes ≤ INPUT_MOST → read_whole All bytes ≡ o → HasOne bytes
-of-text bytes (Ok so) size read = of-run bytes (scenario_of so) so.choices (run (scenario_of so) (plain so.choices)) size (found-told All bytes so read) refl
+of-text : (bytes : List ℕ) (o : Result SoFar Fault) → length bytes ≤ INPUT_MOST → read_whole bytes ≡ o → HasOne bytes
+of-text bytes (Ok so) size read = of-run bytes (scenario_of so) so.choices (run (scenario_of so) (plain so.choices)) size (found-told bytes so read) refl
 of-text bytes (Err fault) size read =
-    let is : IsRefusal bytes fault.line (Grammar fault.reason) = inr (size, bad-told All bytes fault read) in
+    let is : IsRefusal bytes fault.line (Grammar fault.reason) = inr (size, bad-told bytes fault read) in
     inr (fault.line, (Grammar fault.reason, is))
 
 by-size : (bytes : List ℕ) → (INPUT_MOST < length bytes) ⊎ (length bytes ≤ INPUT_MOST) → HasOne bytes
 by-size bytes (inl large) = let is : IsRefusal bytes 0 (Grammar TooLarge) = inl (large, refl, refl) in inr (0, (Grammar TooLarge, is))
-by-size bytes (inr small) = of-text bytes (read_whole All bytes) small refl
+by-size bytes (inr small) = of-text bytes (read_whole bytes) small refl
 
 pub has_answer : HasAnswer
 has_answer bytes = by-size bytes (cases_lt INPUT_MOST (length bytes))

@@ -1,0 +1,5 @@
+pub mod Runs
+pub mod Turns
+pub mod Ending
+pub mod Going
+pub mod Lines

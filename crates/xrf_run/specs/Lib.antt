@@ -1,0 +1,5 @@
+pub mod Offering
+pub mod Pacing
+pub mod Answering
+pub mod Threaded
+pub mod Turns

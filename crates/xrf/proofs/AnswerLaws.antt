@@ -45,11 +45,11 @@ refused source source' sink sink' number reason status is (inr (inr failed)) =
     failed.0 failed.1 failed.2
 
 -- what is told of a text that is all that was left
-told : (source source' : End) (text : List ℕ) (P : List ℕ → Type 0) → ReadToEnd source.bytes source'.bytes text → P text
+pub told : (source source' : End) (text : List ℕ) (P : List ℕ → Type 0) → ReadToEnd source.bytes source'.bytes text → P text
     → IfSome source.bytes (λ bytes. P bytes × (source'.bytes ≡ Some []))
 told source source' text P read is = if-some (λ bytes. (text ≡ bytes) × (source'.bytes ≡ Some [])) (λ bytes. P bytes × (source'.bytes ≡ Some [])) source.bytes (λ bytes r. (subst P r.0 is, r.1)) read
 
-firsts : (source source' : End) (P : List ℕ → Type 0) → IfSome source.bytes (λ bytes. P bytes × (source'.bytes ≡ Some [])) → IfSome source.bytes P
+pub firsts : (source source' : End) (P : List ℕ → Type 0) → IfSome source.bytes (λ bytes. P bytes × (source'.bytes ≡ Some [])) → IfSome source.bytes P
 firsts source source' P h = if-some (λ bytes. P bytes × (source'.bytes ≡ Some [])) P source.bytes (λ bytes r. r.0) h
 
 -- what is made of the whole input and written is the answer
@@ -68,7 +68,7 @@ replayed source source' sink sink' text (Document out) status read is (inr faile
     failed.0 failed.1 failed.2
 
 -- where more came than is allowed, the input is larger
-came-more : (most : ℕ) (bytes : List ℕ) (new : Option (List ℕ)) → most < came (Some bytes) new → most < length bytes
+pub came-more : (most : ℕ) (bytes : List ℕ) (new : Option (List ℕ)) → most < came (Some bytes) new → most < length bytes
 came-more most bytes None h = absurd (omega arith)
 came-more most bytes (Some left) h = omega arith
 

@@ -4,3 +4,4 @@ pub mod MadeLaws
 pub mod NumberLaws
 pub mod DrivenLaws
 pub mod EachLaws
+pub mod LiveLaws

@@ -6,3 +6,5 @@ pub mod Made
 pub mod Ends
 pub mod Driven
 pub mod Answer
+pub mod Live
+pub mod Program

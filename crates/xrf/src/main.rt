@@ -1,12 +1,16 @@
-//! `xrf` runs an XRF pair: it reads a scenario, runs its choices, and writes the scenario back with
-//! the whole trace.
+//! `xrf` runs an XRF pair: it reads a scenario, runs its choices, or lets threads make them, and writes
+//! the scenario back with the choices and the whole trace.
 #![tactic(auto)]
 
 #[cfg(test)]
 mod drive_tests;
 mod drive_words;
 mod driven;
+mod live;
+#[cfg(test)]
+mod live_tests;
 mod made;
+mod program;
 mod refusal;
 mod running;
 mod status;
@@ -14,11 +18,13 @@ mod status;
 mod tests;
 mod top;
 
+use program::xrf_top;
 use status::Status;
 use std::process::ExitCode;
 use std::{env, io};
-use top::batch;
 use xrf_edge::{StdSink, StdSource};
+use xrf_exit::{ExitAnswer, Notice};
+use xrf_run::{OpenGate, StatusExit};
 
 // The status where the runtime refuses the list of words for another cause than want of memory.
 const NO_WORDS: u8 = 28;
@@ -43,5 +49,18 @@ fn main(rt: HostRuntime) -> ExitCode {
     };
     let mut source = StdSource::new(rt.stdin());
     let mut sink = StdSink::new(rt.stdout());
-    ExitCode::from(batch(rt.alloc(), &words, &mut source, &mut sink).code())
+    let exit = StatusExit::new(|notice| match notice {
+        Notice::TakeoverSeen => ExitAnswer::Abend,
+        Notice::AlternateLost => ExitAnswer::Drop,
+    });
+    let status = xrf_top(
+        &rt,
+        rt.alloc(),
+        &words,
+        &mut source,
+        &mut sink,
+        &OpenGate,
+        &exit,
+    );
+    ExitCode::from(status.code())
 }

@@ -1,4 +1,4 @@
-//! The top call.
+//! The answers of the program that never wait.
 
 ghost use Rattle.std.specs.Prelude.{◌≡◌, ◌≤◌, false, true, nat_eq, string_bytes, codes};
 ghost use Rattle.std.specs.Cmp.Lexicographic.{pointwise};
@@ -42,7 +42,7 @@ pub(crate) fn say<K: Sink>(sink: &mut K, text: &[u8], status: Status) -> Status
     }
 }
 
-fn refuse<K: Sink>(alloc: Global, sink: &mut K, number: u32, reason: Reason) -> Status
+pub(crate) fn refuse<K: Sink>(alloc: Global, sink: &mut K, number: u32, reason: Reason) -> Status
     ensures { Refusing (record { bytes = K.held sink.old; faults = K.faults sink.old }) (record { bytes = K.held sink.new; faults = K.faults sink.new }) number reason result }
 {
     match refusal_text(alloc, number, reason) {
@@ -51,7 +51,7 @@ fn refuse<K: Sink>(alloc: Global, sink: &mut K, number: u32, reason: Reason) -> 
     }
 }
 
-fn write_made<K: Sink>(alloc: Global, sink: &mut K, made: Made) -> Status
+pub(crate) fn write_made<K: Sink>(alloc: Global, sink: &mut K, made: Made) -> Status
     ensures { WritesMade (record { bytes = K.held sink.old; faults = K.faults sink.old }) (record { bytes = K.held sink.new; faults = K.faults sink.new }) made result }
 {
     match made {

@@ -10,7 +10,12 @@ from xml.etree import ElementTree
 from test_draw import call
 
 # Writes its input back; 'refuse' is refused, 'turn' is a document that replays to another one, 'sleep' takes too long.
+# `run` writes a document with the acts of both sites.
 PROGRAM = """#!/usr/bin/env bash
+if [ "$*" = run ]; then
+  printf '%s\\n' 'XRF 1' CHOICES 'STEP A' 'STEP B' 'EXIT A ABEND' END '* ACT 1 0 A 1 LOOK1' '* ACT 2 0 B 2 LOOK1' '* DONE'
+  exit
+fi
 [ "$*" = replay ] || { echo "words $*"; exit 12; }
 text=$(cat; echo x)
 case $text in
@@ -65,6 +70,16 @@ class Check(unittest.TestCase):
         self.assertIn("line 2 is 'b', wanted 'c'", self.line(out, "differs"))
         self.assertIn("status 8, wanted 0", self.line(out, "status"))
         self.assertIn("does not replay to itself", self.line(out, "turns"))
+
+    def test_of_a_threaded_run_the_order_of_the_choices_is_open(self) -> None:
+        acts = "* ACT 1 0 B 2 LOOK1\n* ACT 2 0 A 1 LOOK1\n"
+        self.lay("order", "", f"XRF 1\nCHOICES\nEXIT A ABEND\nSTEP B\nSTEP A\nEND\n{acts}* DONE\n", args="run\n")
+        self.assertEqual(self.check()[0], 0)
+        self.lay("report", "", f"XRF 1\nCHOICES\nSTEP A\nEND\n{acts}* TICK 1\n* DONE\n", args="run\n")
+        self.lay("scenario", "", f"XRF 2\nCHOICES\nSTEP A\nEND\n{acts}* DONE\n", args="run\n")
+        status, out, _ = self.check()
+        self.assertEqual((status, out.splitlines()[-1]), (1, "1 passed, 2 failed"))
+        self.assertIn("is '* DONE', wanted '* TICK 1'", self.line(out, "report"))
 
     def test_a_packed_input_is_unpacked(self) -> None:
         (self.folder / "packed.in.gz").write_bytes(gzip.compress(b"long\n"))

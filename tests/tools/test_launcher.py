@@ -94,6 +94,13 @@ class Words(Checkout):
             done = self.run_xrf(*words, given=given)
             self.assertEqual((done.stdout, done.returncode), ("words: replay\nsome lines\n", 0))
 
+    def test_run_takes_a_file_too(self) -> None:
+        scenario = self.room / "a scenario"
+        scenario.write_text("some lines\n")
+        for words, given in ((("run", str(scenario)), ""), (("run",), "some lines\n")):
+            done = self.run_xrf(*words, given=given)
+            self.assertEqual((done.stdout, done.returncode), ("words: run\nsome lines\n", 0))
+
     def test_a_file_that_cannot_be_read_is_said_and_nothing_is_built(self) -> None:
         for name in ("nowhere", str(self.room)):
             done = self.run_xrf("replay", name)

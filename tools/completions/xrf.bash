@@ -3,7 +3,7 @@ _xrf() {
   local word=${COMP_WORDS[COMP_CWORD]} verb=${COMP_WORDS[1]-}
   COMPREPLY=()
   if [ "$COMP_CWORD" -eq 1 ]; then
-    mapfile -t COMPREPLY < <(compgen -W "replay drive draw explain check build --help --version --program" -- "$word")
+    mapfile -t COMPREPLY < <(compgen -W "replay run drive draw explain check build --help --version --program" -- "$word")
     return
   fi
   case $verb:$word in
@@ -11,7 +11,7 @@ _xrf() {
     explain:-*) mapfile -t COMPREPLY < <(compgen -W "--acts --help" -- "$word") ;;
     check:-*) mapfile -t COMPREPLY < <(compgen -W "--accept --strict --junit --program --jobs --timeout --quiet --help" -- "$word") ;;
     check:*) mapfile -t COMPREPLY < <(compgen -d -- "$word") ;;
-    replay:* | draw:* | explain:*) mapfile -t COMPREPLY < <(compgen -f -- "$word") ;;
+    replay:* | run:* | draw:* | explain:*) mapfile -t COMPREPLY < <(compgen -f -- "$word") ;;
   esac
 }
 complete -o filenames -F _xrf xrf ./xrf

@@ -2,7 +2,8 @@
 
 A scenario is NAME.in, its standard input (or NAME.in.gz, packed); NAME.args, a word a line (replay where there is
 none); NAME.out, the whole output; and NAME.status (0 where there is none). A document that comes out of `replay` or
-`run` has to replay to itself.
+`run` has to replay to itself. Of a threaded run the order of the choices is open, so what is compared of its document
+is the rest: the scenario, and the report without its ACT lines.
 """
 
 import gzip
@@ -68,7 +69,8 @@ class Checking:
         ran = self.run(words, data)
         stored = beside(place, ".out")
         if stored.exists():
-            why = difference(ran, stored.read_bytes(), status_of(place)) or self.again(words, ran)
+            got = Ran(settled(words, ran.output), ran.status, ran.seconds)
+            why = difference(got, settled(words, stored.read_bytes()), status_of(place)) or self.again(words, ran)
             return ("failed", why) if why else ("passed", "")
         if self.accepts and ran.status >= 0:
             stored.write_bytes(ran.output)
@@ -102,6 +104,15 @@ def status_of(place: Path) -> int:
 def input_of(place: Path) -> bytes:
     packed = beside(place, ".in.gz")
     return gzip.decompress(packed.read_bytes()) if packed.exists() else beside(place, ".in").read_bytes()
+
+
+def settled(words: list[str], output: bytes) -> bytes:
+    """What of an output is the same each time: of the document of a threaded run all but the choices and their acts."""
+    lines = output.split(b"\n")
+    if words != ["run"] or b"CHOICES" not in lines or b"END" not in lines:
+        return output
+    behind = [line for line in lines[lines.index(b"END"):] if not line.startswith(b"* ACT ")]
+    return b"\n".join(lines[:lines.index(b"CHOICES")] + behind)
 
 
 def difference(ran: Ran, wanted: bytes, status: int) -> str:

@@ -87,10 +87,10 @@ class Threads(unittest.TestCase):
 
     def test_a_hundred_runs_of_a_plan_come_to_the_takeover(self) -> None:
         text = (EXAMPLES / "planned_takeover.in").read_bytes()
-        for _ in range(100):
-            document = self.check(text)
-            self.assertIn("\n* JOB A NONE\n* JOB B 2 ACTIVE\n", document)
-            self.assertIn("\n* FILE 1 BALANCE-150\n", document)
+        with ThreadPoolExecutor(4) as pool:
+            for document in pool.map(self.check, [text] * 100):
+                self.assertIn("\n* JOB A NONE\n* JOB B 2 ACTIVE\n", document)
+                self.assertIn("\n* FILE 1 BALANCE-150\n", document)
 
     def test_thirty_two_runs_at_once(self) -> None:
         text = (EXAMPLES / "confirmed_takeover.in").read_bytes()

@@ -6,7 +6,6 @@ use Rattle.xrf_exit.specs.declared.ExitAnswer.{ExitAnswer}
 use Rattle.xrf_grammar.specs.declared.reason.Reason.TheVariants.{TooLarge}
 use Rattle.xrf_scenario.proofs.ReadingLaws.{one_reading, never_both}
 use Rattle.xrf_scenario.specs.Reading.{Reads}
-use Rattle.xrf_scenario.specs.declared.built.Forms.TheVariants.{All}
 use Rattle.xrf_setup.specs.Scenario.{Scen}
 use Rattle.xrf_setup.specs.declared.choice.Choice.{Choice}
 use Rattle.xrf_setup.specs.declared.ranges.TheConstants.{INPUT_MOST}
@@ -33,7 +32,7 @@ use Rattle.xrf.proofs.OneLaws.{there}
 -- the document of a threaded run
 pub threaded-made : (may : ExitAnswer → Type 0) (s : Scen) (choices : List Choice) (t : List Entry) (text : List ℕ) → run s choices ≡ Ok t → IsThreadedRun s may t (reverse choices) → Safe s t × Promises s t
     → text ≡ doc s choices → ReadsAgain s choices text → length text < 4194304
-    → (bytes : List ℕ) → length bytes ≤ INPUT_MOST → Reads All bytes s [] → IsThreadedDocument may bytes text × IsDocument text text
+    → (bytes : List ℕ) → length bytes ≤ INPUT_MOST → Reads bytes s [] → IsThreadedDocument may bytes text × IsDocument text text
 threaded-made may s choices t text ran threaded keeps same again short bytes size reads = (
   record { scenario = s; size = size; reads = reads; choices = choices; trace = t; is_run = ran; threaded = threaded; safe = keeps.0; keeps = keeps.1; document = same },
   document-of-itself s choices t text ran keeps same again short,
@@ -87,15 +86,15 @@ lived-too_large source source' h = by source.bytes source'.bytes h
     by (Some bytes) o' h = inl (came-more 4194304 bytes o' h, refl, refl)
 
 -- a scenario without a choice is not refused
-not_refused : (bytes : List ℕ) (s : Scen) (number : ℕ) (reason : Reason) → length bytes ≤ INPUT_MOST → Reads All bytes s [] → IsThreadedRefusal bytes number reason → ⊥
+not_refused : (bytes : List ℕ) (s : Scen) (number : ℕ) (reason : Reason) → length bytes ≤ INPUT_MOST → Reads bytes s [] → IsThreadedRefusal bytes number reason → ⊥
 not_refused bytes s number (Choosing reason) size reads never = never
 not_refused bytes s number (Grammar reason) size reads (inl large) = omega (arith, size, large.0)
-not_refused bytes s number (Grammar reason) size reads (inr (small, inl bad)) = never_both All bytes s [] number reason reads bad
+not_refused bytes s number (Grammar reason) size reads (inr (small, inl bad)) = never_both bytes s [] number reason reads bad
 not_refused bytes s number (Grammar reason) size reads (inr (small, inr (given, has))) =
-    let same = one_reading All bytes s has.scenario [] (has.first ∷ has.others) reads has.reads in cc
+    let same = one_reading bytes s has.scenario [] (has.first ∷ has.others) reads has.reads in cc
 
 -- the answer to `run` of a scenario without a choice, and of a text that has a refusal, without a fault
-lived_done : (may : ExitAnswer → Type 0) (source source' sink sink' : End) (status : Status) (bytes : List ℕ) (s : Scen) → source.bytes ≡ Some bytes → length bytes ≤ INPUT_MOST → Reads All bytes s []
+lived_done : (may : ExitAnswer → Type 0) (source source' sink sink' : End) (status : Status) (bytes : List ℕ) (s : Scen) → source.bytes ≡ Some bytes → length bytes ≤ INPUT_MOST → Reads bytes s []
     → ¬ HasRisen source.faults source'.faults → ¬ HasRisen sink.faults sink'.faults → Lived may source source' sink sink' status → (status ≡ Done) ⊎ (status ≡ NoMemory)
 lived_done may source source' sink sink' Done bytes s is size reads quiet quiet' answer = inl refl
 lived_done may source source' sink sink' Refused bytes s is size reads quiet quiet' answer =

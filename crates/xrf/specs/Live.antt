@@ -11,7 +11,6 @@ use Rattle.xrf_setup.specs.Scenario.{Scen}
 use Rattle.xrf_setup.specs.declared.choice.Choice.{Choice}
 use Rattle.xrf_setup.specs.declared.ranges.TheConstants.{INPUT_MOST}
 use Rattle.xrf_scenario.specs.Reading.{Reads, HasBad}
-use Rattle.xrf_scenario.specs.declared.built.Forms.TheVariants.{All}
 use Rattle.xrf_scenario.specs.declared.numbered.Numbered.{Numbered}
 use Rattle.xrf_trace.specs.declared.entry.Entry.{Entry}
 use Rattle.xrf_trace.specs.Runs.{run}
@@ -41,7 +40,7 @@ is_run_word (word ∷ next ∷ words) = false
 pub record IsThreadedDocument (may : ExitAnswer → Type 0) (bytes text : List ℕ) : Type 0 where
   pub scenario : Scen
   pub size : length bytes ≤ INPUT_MOST
-  pub reads : Reads All bytes scenario []
+  pub reads : Reads bytes scenario []
   pub choices : List Choice
   pub trace : List Entry
   pub is_run : run scenario choices ≡ Ok trace
@@ -55,7 +54,7 @@ pub record HasChoice (bytes : List ℕ) (number : ℕ) : Type 0 where
   pub scenario : Scen
   pub first : Numbered
   pub others : List Numbered
-  pub reads : Reads All bytes scenario (first ∷ others)
+  pub reads : Reads bytes scenario (first ∷ others)
   pub line : number ≡ first.line
 
 -- The input is refused at a line for a reason: it is too large, which is said at line 0; or else its grammar is bad first
@@ -63,7 +62,7 @@ pub record HasChoice (bytes : List ℕ) (number : ℕ) : Type 0 where
 abbrev pub IsThreadedRefusal : List ℕ → ℕ → Reason → Type 0
 IsThreadedRefusal bytes number (Grammar reason) =
     ((INPUT_MOST < length bytes) × (number ≡ 0) × (reason ≡ TooLarge))
-    ⊎ ((length bytes ≤ INPUT_MOST) × (HasBad All bytes number reason ⊎ ((reason ≡ ChoicesGiven) × HasChoice bytes number)))
+    ⊎ ((length bytes ≤ INPUT_MOST) × (HasBad bytes number reason ⊎ ((reason ≡ ChoicesGiven) × HasChoice bytes number)))
 IsThreadedRefusal bytes number (Choosing reason) = ⊥
 
 -- What is made of an input is the document of a threaded run, which a replay writes again; or its refusal, unless memory
@@ -112,7 +111,7 @@ Lived may source source' sink sink' NoMemory = sink' ≡ sink
 -- Without a fault of source and sink, an input that spells a scenario without a choice is answered Done, and one that has a
 -- refusal Refused; or the answer is want of memory.
 pub record LivesThrough (source source' sink sink' : End) (status : Status) : Type 0 where
-  pub scenario : (bytes : List ℕ) (s : Scen) → source.bytes ≡ Some bytes → length bytes ≤ INPUT_MOST → Reads All bytes s []
+  pub scenario : (bytes : List ℕ) (s : Scen) → source.bytes ≡ Some bytes → length bytes ≤ INPUT_MOST → Reads bytes s []
       → ¬ HasRisen source.faults source'.faults → ¬ HasRisen sink.faults sink'.faults → (status ≡ Done) ⊎ (status ≡ NoMemory)
   pub refusal : (bytes : List ℕ) (number : ℕ) (reason : Reason) → source.bytes ≡ Some bytes → IsThreadedRefusal bytes number reason
       → ¬ HasRisen source.faults source'.faults → ¬ HasRisen sink.faults sink'.faults → (status ≡ Refused) ⊎ (status ≡ NoMemory)

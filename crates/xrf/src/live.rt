@@ -4,7 +4,6 @@ ghost use Rattle.std.specs.Prelude.{◌≤◌, [], length, List, ℕ, IfOk};
 ghost use Rattle.xrf_exit.specs.Exit.{AnswersAllowed};
 ghost use Rattle.xrf_exit.specs.declared.Notice.TheVariants.{AlternateLost};
 ghost use Rattle.xrf_scenario.specs.Reading.{Reads};
-ghost use Rattle.xrf_scenario.specs.declared.built.Forms.TheVariants.{All};
 ghost use Rattle.xrf.specs.Live.{IsThreadedMade, Lived, LivesThrough};
 
 use crate::made::Made;
@@ -31,7 +30,7 @@ fn lived<R: Threads + Wait + Sync, G: Gate + Sync, F: Fn(Notice) -> ExitAnswer +
 ) -> Result<Made, AllocError>
     requires callable { F.IsAlwaysCallable exit.now.closure }
     requires allowed { AnswersAllowed (F.post exit.now.closure) }
-    ensures { (bytes : List ℕ) → length bytes ≤ INPUT_MOST → Reads All bytes scenario.now [] → IfOk result (IsThreadedMade (λ said. F.post exit.now.closure AlternateLost said) bytes) }
+    ensures { (bytes : List ℕ) → length bytes ≤ INPUT_MOST → Reads bytes scenario.now [] → IfOk result (IsThreadedMade (λ said. F.post exit.now.closure AlternateLost said) bytes) }
 {
     let (world, choices) = live(rt, alloc, scenario, gate, exit)?;
     Ok(Made::Document(document(alloc, scenario, &choices, &world)?))
@@ -48,7 +47,7 @@ fn made_of_read<R: Threads + Wait + Sync, G: Gate + Sync, F: Fn(Notice) -> ExitA
 ) -> Result<Made, AllocError>
     requires callable { F.IsAlwaysCallable exit.now.closure }
     requires allowed { AnswersAllowed (F.post exit.now.closure) }
-    ensures { (bytes : List ℕ) → length bytes ≤ INPUT_MOST → Reads All bytes scenario.now numbered.now → IfOk result (IsThreadedMade (λ said. F.post exit.now.closure AlternateLost said) bytes) }
+    ensures { (bytes : List ℕ) → length bytes ≤ INPUT_MOST → Reads bytes scenario.now numbered.now → IfOk result (IsThreadedMade (λ said. F.post exit.now.closure AlternateLost said) bytes) }
 {
     match numbered {
         [] => lived(rt, alloc, scenario, gate, exit),

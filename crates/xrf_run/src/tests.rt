@@ -14,7 +14,7 @@ use std::test::Fail;
 use std::thread::{self, Threads};
 use xrf_base::Site;
 use xrf_exit::{ExitAnswer, Notice};
-use xrf_scenario::{Forms, read_forms};
+use xrf_scenario::read;
 use xrf_setup::ranges::PACE_MOST;
 use xrf_setup::{Choice, Scenario};
 use xrf_world::{JobState, World};
@@ -191,7 +191,7 @@ fn has_kept(choices: &[Choice]) -> bool {
 
 #[test]
 fn the_first_turns_of_both_sites_meet(rt: HostRuntime) -> Result<(), Fail> {
-    let (scenario, _) = read_forms(rt.alloc(), Forms::All, TAKEOVER)?;
+    let (scenario, _) = read(rt.alloc(), TAKEOVER)?;
     let gate = Meeting {
         a: AtomicBool::new(false),
         b: AtomicBool::new(false),
@@ -207,7 +207,7 @@ fn the_first_turns_of_both_sites_meet(rt: HostRuntime) -> Result<(), Fail> {
 
 #[test]
 fn the_site_that_the_gate_lets_through_first_is_the_owner(rt: HostRuntime) -> Result<(), Fail> {
-    let (scenario, _) = read_forms(rt.alloc(), Forms::All, BOTH)?;
+    let (scenario, _) = read(rt.alloc(), BOTH)?;
     for (first, owner, other) in [
         (Actor::SiteA, Site::A, Site::B),
         (Actor::SiteB, Site::B, Site::A),
@@ -227,7 +227,7 @@ fn the_site_that_the_gate_lets_through_first_is_the_owner(rt: HostRuntime) -> Re
 
 #[test]
 fn a_hundred_runs_are_threaded_runs(rt: HostRuntime) -> Result<(), Fail> {
-    let (scenario, _) = read_forms(rt.alloc(), Forms::All, TAKEOVER)?;
+    let (scenario, _) = read(rt.alloc(), TAKEOVER)?;
     for number in 0..100u32 {
         let (world, choices) = run(&rt, rt.alloc(), &scenario, &OpenGate)?;
         assert!(rt;
@@ -243,7 +243,7 @@ fn a_hundred_runs_are_threaded_runs(rt: HostRuntime) -> Result<(), Fail> {
 
 #[test]
 fn thirty_two_runs_at_once(rt: HostRuntime) -> Result<(), Fail> {
-    let (scenario, _) = read_forms(rt.alloc(), Forms::All, TAKEOVER)?;
+    let (scenario, _) = read(rt.alloc(), TAKEOVER)?;
     let alloc = rt.alloc();
     let are = thread::map_indices(
         &rt,
@@ -265,7 +265,7 @@ fn thirty_two_runs_at_once(rt: HostRuntime) -> Result<(), Fail> {
 
 #[test]
 fn the_exit_answers_the_loss_of_the_alternate(rt: HostRuntime) -> Result<(), Fail> {
-    let (scenario, _) = read_forms(rt.alloc(), Forms::All, LOSS)?;
+    let (scenario, _) = read(rt.alloc(), LOSS)?;
     let (_, choices) = run(&rt, rt.alloc(), &scenario, &OpenGate)?;
     assert!(rt; has_kept(choices.as_slice()));
     assert!(rt; is_threaded_run(rt.alloc(), &scenario, choices.as_slice())?);
@@ -274,7 +274,7 @@ fn the_exit_answers_the_loss_of_the_alternate(rt: HostRuntime) -> Result<(), Fai
 
 #[test]
 fn a_run_of_the_longest_ticks(rt: HostRuntime) -> Result<(), Fail> {
-    let (scenario, _) = read_forms(rt.alloc(), Forms::All, LONG)?;
+    let (scenario, _) = read(rt.alloc(), LONG)?;
     let (world, choices) = run(&rt, rt.alloc(), &scenario, &OpenGate)?;
     assert_eq!(rt; world.now(), 200);
     assert!(rt; is_threaded_run(rt.alloc(), &scenario, choices.as_slice())?);
@@ -317,7 +317,7 @@ fn by_turns<N: RunName, R: Abort>(rt: &R, alloc: Global, scenario: &Scenario) ->
 
 #[test]
 fn turns_by_hand(rt: HostRuntime) -> Result<(), Fail> {
-    let (scenario, _) = read_forms(rt.alloc(), Forms::All, REFUSED)?;
+    let (scenario, _) = read(rt.alloc(), REFUSED)?;
     by_turns::<Brand, _>(&rt, rt.alloc(), &scenario)
 }
 
@@ -364,7 +364,7 @@ fn the_judge_finds_what_breaks_a_rule(rt: HostRuntime) -> Result<(), Fail> {
         ),
     ];
     for (text, want) in table {
-        let (scenario, numbered) = read_forms(rt.alloc(), Forms::All, text)?;
+        let (scenario, numbered) = read(rt.alloc(), text)?;
         let mut choices = Vec::new(rt.alloc());
         for line in numbered.iter() {
             choices.push(line.choice)?;

@@ -3,7 +3,6 @@ use Rattle.std.proofs.Common.{◌≡◌, ◌≤◌, ℕ, sym, subst, arith, ap}
 use Rattle.xrf_laws.proofs.EveryRun.{of_choices}
 use Rattle.xrf_setup.specs.declared.ranges.TheConstants.{CHOICES_MOST}
 use Rattle.xrf_trace.specs.Scenario.{Scen}
-use Rattle.xrf_trace.specs.declared.entry.Entry.{Entry}
 use Rattle.xrf_world.specs.Runs.{Run}
 use Rattle.xrf_drive.specs.Scenario.{generated}
 use Rattle.xrf_drive.specs.Drawn.{IsGenerated, first_generator, turns_of}

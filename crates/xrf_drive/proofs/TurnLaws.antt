@@ -5,10 +5,10 @@ use Rattle.rand_pcg.specs.Pcg.{pcg32}
 use Rattle.xrf_setup.specs.declared.choice.Choice.{Choice}
 use Rattle.xrf_trace.specs.declared.entry.Entry.{Entry}
 use Rattle.xrf_trace.specs.declared.entry.Refused.{Refused}
-use Rattle.xrf_trace.specs.Runs.{outcome, outcome_of, Refusal, run, run_from}
+use Rattle.xrf_trace.specs.Runs.{outcome, Refusal, run, run_from}
 use Rattle.xrf_trace.specs.Scenario.{Scen}
 use Rattle.xrf_world.specs.Runs.{Run, Made, Applied}
-use Rattle.xrf_drive.specs.Drawn.{Turns, first_generator, trace_with, turned, turns_of, with_choice}
+use Rattle.xrf_drive.specs.Drawn.{Turns, trace_with, turned, turns_of, with_choice}
 use Rattle.xrf_drive.specs.Tries.{DrivesTo, Tried}
 use Rattle.xrf_drive.specs.Turns.{first_of, turn}
 

@@ -1,11 +1,11 @@
 -- The units of a site, and the scenario that they make.
-use Rattle.std.proofs.Common.{◌≡◌, ◌≤◌, ◌<◌, ◌+◌, ◌*◌, ◌%◌, ℕ, zero, suc, List, [], ◌∷◌, ◌++◌, length, length-append, ap, subst, sym, refl, ◌∙◌, add-one, arith}
+use Rattle.std.proofs.Common.{◌≡◌, ◌≤◌, ◌<◌, ◌+◌, ◌*◌, ℕ, zero, suc, List, [], ◌∷◌, ◌++◌, length, length-append, ap, subst, sym, refl, add-one, arith}
 use Rattle.std.specs.List.{AllByRecursion}
 use Rattle.xrf_base.specs.declared.items.Item.{Item}
 use Rattle.xrf_base.specs.declared.site.Site.{Site}
 use Rattle.xrf_base.specs.declared.site.Site.TheVariants.{A, B}
 use Rattle.xrf_setup.specs.Items.{IsItemOf}
-use Rattle.xrf_setup.specs.Scenario.{Scen, IsScen}
+use Rattle.xrf_setup.specs.Scenario.{IsScen}
 use Rattle.xrf_clt.specs.Kept.{Kept}
 use Rattle.xrf_setup.specs.declared.choice.Choice.{Choice}
 use Rattle.xrf_setup.specs.declared.settings.Settings.{Settings}

@@ -1,5 +1,5 @@
 -- Which choice a turn of the generated run makes.
-use Rattle.std.specs.Prelude.{◌≡◌, ℕ, zero, suc, ◌%◌, ◌==◌, nat_lt, Bool, if◌then◌else◌, List, Option, Some, None, option_map, unwrap_or, Ok}
+use Rattle.std.specs.Prelude.{ℕ, zero, suc, ◌%◌, ◌==◌, nat_lt, Bool, if◌then◌else◌, List, Option, Some, None, option_map, unwrap_or}
 use Rattle.xrf_base.specs.declared.site.Site.{Site}
 use Rattle.xrf_base.specs.declared.site.Site.TheVariants.{A, B}
 use Rattle.xrf_exit.specs.declared.ExitAnswer.{ExitAnswer}

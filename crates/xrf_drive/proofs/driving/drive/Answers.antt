@@ -11,4 +11,4 @@ returns-clause-scenario c =
 pub returns-clause-run : goal.returns-clause-run
 returns-clause-run c =
     generated_run c.args.seed c.args.turns c.in_ok-world.world.scenario c.make_turns.new.world (ap (λ (r : Run). r.scenario) c.in_ok-world.ensures.world ∙ c.in_ok-scenario.ensures)
-    c.requires c.make_turns.ensures
+    c.requires.few c.make_turns.ensures

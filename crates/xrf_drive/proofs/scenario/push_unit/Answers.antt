@@ -1,4 +1,4 @@
-use Rattle.std.proofs.Common.{refl, arith}
+use Rattle.std.proofs.Common.{refl}
 use Rattle.xrf_drive.proofs.ValueLaws.{is_put}
 use Rattle.xrf_drive.proofs.scenario.push_unit.Goals as goal
 

@@ -1,5 +1,5 @@
 -- What an act that a job wants asks of a World, and what it leaves: from the laws.
-use Rattle.std.proofs.Common.{◌≡◌, ◌≤◌, ◌<◌, ◌+◌, ◌-◌, ◌*◌, ◌^◌, ℕ, Bool, true, false, ◌||◌, ◌==◌, ◌∙◌, IsTrue, sym, ap, subst, refl, arith, nat_lt, if◌then◌else◌, List, ◌∷◌, length, Option, Some, None, IfSome, Ok, Err}
+use Rattle.std.proofs.Common.{◌≡◌, ◌≤◌, ◌<◌, ◌+◌, ◌-◌, ◌^◌, ℕ, Bool, true, false, ◌||◌, ◌==◌, ◌∙◌, IsTrue, sym, ap, subst, refl, arith, nat_lt, if◌then◌else◌, List, ◌∷◌, length, Option, Some, None, IfSome, Ok, Err}
 use Rattle.std.proofs.lemmas.Grind.{common_steps}
 use Rattle.xrf_base.specs.declared.items.Item.{Item}
 use Rattle.xrf_base.specs.declared.site.Site.{Site}

@@ -1,29 +1,23 @@
 -- What an entry leaves of the sites that are not its own, and of the pair.
-use Rattle.std.proofs.Common.{◌≡◌, ◌≤◌, ◌<◌, ◌+◌, ◌&&◌, ◌||◌, not, ◌==◌, nat_le, ℕ, Bool, true, false, ◌∙◌, sym, ap, subst, refl, arith, if◌then◌else◌, is_some, List, [], ◌∷◌, length, Option, Some, None, Result, Ok, Err}
-use Rattle.std.proofs.lemmas.Grind.{common_steps}
+use Rattle.std.proofs.Common.{◌≡◌, ◌+◌, ◌&&◌, not, ◌==◌, ℕ, Bool, true, false, ◌∙◌, sym, ap, subst, refl, arith, if◌then◌else◌, List, ◌∷◌, Option, Result, Ok, Err}
 use Rattle.xrf_base.specs.declared.items.ItemAnswer.{ItemAnswer}
 use Rattle.xrf_base.specs.declared.site.Site.{Site}
 use Rattle.xrf_base.specs.declared.site.Site.TheVariants as site
 use Rattle.xrf_setup.specs.declared.choice.Choice.{Choice}
-use Rattle.xrf_setup.specs.declared.choice.Choice.TheVariants as choice
-use Rattle.xrf_history.specs.Events.{Event, Ticked}
+use Rattle.xrf_history.specs.Events.{Event}
 use Rattle.xrf_history.specs.Next.{next}
 use Rattle.xrf_history.specs.Reserving.{or_else}
 use Rattle.xrf_trace.specs.declared.entry.Act.{Act}
 use Rattle.xrf_trace.specs.declared.entry.Act.TheVariants as act
 use Rattle.xrf_trace.specs.declared.entry.Entry.{Entry}
-use Rattle.xrf_trace.specs.declared.entry.Land.{Land}
 use Rattle.xrf_trace.specs.declared.entry.Refused.{Refused}
-use Rattle.xrf_trace.specs.declared.entry.Refused.TheVariants.{Dishonest}
 use Rattle.xrf_trace.specs.declared.entry.Who.{Who}
 use Rattle.xrf_trace.specs.declared.entry.Who.TheVariants as who
-use Rattle.xrf_trace.specs.Acts.{act_of, is_act}
-use Rattle.xrf_trace.specs.Entries.{entry}
+use Rattle.xrf_trace.specs.Acts.{is_act}
 use Rattle.xrf_trace.specs.Items.{answer, answer_by}
 use Rattle.xrf_trace.specs.Jobs.{hist, after_own, after_other}
 use Rattle.xrf_trace.specs.Landing.{is_in_full, is_stop}
-use Rattle.xrf_trace.specs.Refusals.{may_confirm, unless}
-use Rattle.xrf_trace.specs.Runs.{IsRun, outcome, outcome_of}
+use Rattle.xrf_trace.specs.Runs.{IsRun}
 use Rattle.xrf_trace.specs.Scenario.{Scen, other, settings}
 use Rattle.xrf_trace.specs.Words.{is_of, is_item, items_taken, holds_after, holds_reserve, who_at}
 use Rattle.xrf_trace.proofs.JobSteps.{is-own}
@@ -33,7 +27,7 @@ use Rattle.xrf_world.specs.declared.pair.Pair.{Pair}
 use Rattle.xrf_world.specs.declared.place.Kept.{Kept}
 use Rattle.xrf_world.specs.declared.place.Place.{Place}
 use Rattle.xrf_world.specs.Making.{Makes, MakesAt}
-use Rattle.xrf_world.specs.Places.{KeptByNumber, KeptIs, ItemsAre, PlaceIs, is_start, taken_before_start}
+use Rattle.xrf_world.specs.Places.{KeptByNumber, KeptIs, PlaceIs, is_start, taken_before_start}
 use Rattle.xrf_world.specs.Seats.{SeatIs}
 use Rattle.xrf_world.specs.Standing.{Goes, Stands}
 

@@ -1,5 +1,5 @@
 -- What a FAIL asks of a World, and what it leaves: from the laws.
-use Rattle.std.proofs.Common.{◌≡◌, ◌<◌, ◌+◌, ◌-◌, ℕ, Bool, true, false, ◌∙◌, sym, ap, subst, refl, arith, is_some, List, ◌∷◌, length, Option, Some, None, IfSome, Ok, Err}
+use Rattle.std.proofs.Common.{◌≡◌, ◌<◌, ◌+◌, ℕ, Bool, true, false, ◌∙◌, sym, ap, subst, refl, arith, is_some, List, ◌∷◌, length, Option, Some, None, IfSome, Ok, Err}
 use Rattle.std.proofs.lemmas.Grind.{common_steps}
 use Rattle.xrf_base.specs.declared.site.Site.{Site}
 use Rattle.xrf_setup.specs.declared.choice.Choice.TheVariants as choice
@@ -22,8 +22,8 @@ use Rattle.xrf_trace.specs.declared.entry.Land.TheVariants as land
 use Rattle.xrf_trace.specs.declared.entry.Refused.{Refused}
 use Rattle.xrf_trace.specs.declared.entry.Refused.TheVariants.{NotEnabled}
 use Rattle.xrf_trace.specs.Acts.{act_of, next_act, may_fail}
-use Rattle.xrf_trace.specs.Entries.{entry, inc_of_act}
-use Rattle.xrf_trace.specs.Jobs.{hist, handed, after_own}
+use Rattle.xrf_trace.specs.Entries.{inc_of_act}
+use Rattle.xrf_trace.specs.Jobs.{hist, after_own}
 use Rattle.xrf_trace.specs.Refusals.{is_next, unless, torn_refusal}
 use Rattle.xrf_trace.specs.Runs.{IsRun, outcome, outcome_of}
 use Rattle.xrf_trace.specs.Scenario.{Scen, settings, work}

@@ -1,15 +1,11 @@
 -- What each entry of a run asks of the data sets and of what is counted: from the laws.
-use Rattle.std.proofs.Common.{◌≡◌, ◌≤◌, ◌<◌, ◌+◌, ◌-◌, ◌^◌, ℕ, Bool, true, false, ◌||◌, ◌==◌, ◌∙◌, sym, ap, subst, refl, arith, nat_lt, if◌then◌else◌, is_some, List, [], ◌∷◌, length, Option, Some, None, IfSome, Result, Ok, Err, eqb-true, eq-eqb}
+use Rattle.std.proofs.Common.{◌≡◌, ◌≤◌, ◌<◌, ◌+◌, ℕ, Bool, true, false, ◌∙◌, ap, subst, refl, arith, nat_lt, if◌then◌else◌, List, [], ◌∷◌, length, Option, Some, None, IfSome}
 use Rattle.std.proofs.lemmas.Grind.{common_steps}
-use Rattle.xrf_base.specs.declared.items.Item.{Item}
 use Rattle.xrf_base.specs.declared.site.Site.{Site}
-use Rattle.xrf_base.specs.declared.site.Site.TheVariants as site
 use Rattle.xrf_devices.specs.Writing.{FitsTorn, HasTorn, MayLand, MessageMayLand, LogMayLand, KeyMayLand}
 use Rattle.xrf_log.specs.Flight.{flight, has_ended}
 use Rattle.xrf_logrec.specs.LogRecords.{unit_of}
 use Rattle.xrf_logrec.specs.declared.records.LogRec.{LogRec}
-use Rattle.xrf_setup.specs.declared.choice.Choice.{Choice}
-use Rattle.xrf_setup.specs.declared.choice.Landing.{Landing}
 use Rattle.xrf_setup.specs.declared.choice.Landing.TheVariants as landing
 use Rattle.xrf_setup.specs.declared.ranges.TheConstants.{CHOICES_MOST}
 use Rattle.xrf_history.specs.declared.want.Want.{Want}
@@ -33,8 +29,8 @@ use Rattle.xrf_trace.specs.UnitsAreItems.{IsOfNoEnded}
 use Rattle.xrf_trace.specs.Each.{Where}
 use Rattle.xrf_trace.specs.Words.{now, items_taken, tick_after}
 use Rattle.xrf_trace.proofs.ByKind.{LandFits}
-use Rattle.xrf_trace.proofs.JobSteps.{OfJobs, at-job}
-use Rattle.xrf_trace.proofs.Steps.{CanLand, Fits, IsStart, Reaches, Step, OfTick, OfConfirm, OfStart, OfChoice, OfAct, OfStop, run-step}
+use Rattle.xrf_trace.proofs.JobSteps.{at-job}
+use Rattle.xrf_trace.proofs.Steps.{IsStart, Reaches, Step, OfTick, OfConfirm, OfStart, OfChoice, OfAct, OfStop, run-step}
 use Rattle.xrf_trace.proofs.TraceActs.{by_act}
 use Rattle.xrf_owner_law.proofs.KnownLaw.{known}
 use Rattle.xrf_log_law.proofs.LogLaw.{conditions-are-met, data-sets-stand, units-are-items}
@@ -42,7 +38,7 @@ use Rattle.xrf_log_law.specs.Conditions.{MayBeWritten, WorldConditions}
 use Rattle.xrf_log_law.specs.DataSets.{DataSetsStand}
 use Rattle.xrf_message_law.proofs.MessageLaw.{lands}
 use Rattle.xrf_message_law.specs.MayLand.{MayLand as SlotMayLand}
-use Rattle.xrf_world.specs.Counts.{CanCount, IsMarked, Joins, JoinsIf}
+use Rattle.xrf_world.specs.Counts.{CanCount, IsMarked, JoinsIf}
 use Rattle.xrf_world.specs.Making.{CanFollow}
 
 -- an ITEM is next while one is left

@@ -1,5 +1,5 @@
 -- What is made of a place, from what its entry is.
-use Rattle.std.proofs.Common.{◌≡◌, ◌≤◌, ◌∙◌, ℕ, List, ◌∷◌, length, Option, Ok, sym, ap, subst, refl}
+use Rattle.std.proofs.Common.{◌≡◌, ◌≤◌, ◌∙◌, ℕ, List, ◌∷◌, length, Option, Ok, sym, ap, subst}
 use Rattle.xrf_base.specs.declared.items.ItemAnswer.{ItemAnswer}
 use Rattle.xrf_base.specs.declared.site.Site.{Site}
 use Rattle.xrf_base.specs.declared.site.Site.TheVariants as site

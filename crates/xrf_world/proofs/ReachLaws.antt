@@ -1,25 +1,21 @@
 -- What the choices that reach a job, and a START, ask of a World, and what they leave: from the laws.
-use Rattle.std.proofs.Common.{◌≡◌, ◌≤◌, ◌<◌, ◌+◌, ℕ, Bool, true, false, ◌||◌, ◌∙◌, sym, ap, subst, refl, arith, is_some, is_none, List, [], ◌∷◌, length, Option, Some, None, Ok, Err}
-use Rattle.std.proofs.lemmas.Grind.{common_steps}
+use Rattle.std.proofs.Common.{◌≡◌, Bool, true, false, ◌||◌, ◌∙◌, sym, ap, refl, arith, is_some, is_none, List, length, Option, Some, None, Ok, Err}
 use Rattle.std.specs.Option.{option_and_then}
 use Rattle.xrf_base.specs.declared.site.Site.{Site}
-use Rattle.xrf_base.specs.declared.site.Site.TheVariants as site
 use Rattle.xrf_active.specs.Taking.{LeavesRoom, HasSmallKeys}
 use Rattle.xrf_cebt.specs.declared.commands.Cebt.{Cebt}
 use Rattle.xrf_cebt.specs.declared.replies.CebtReply.{CebtReply}
 use Rattle.xrf_exit.specs.declared.ExitAnswer.{ExitAnswer}
 use Rattle.xrf_exit.specs.declared.Notice.{Notice}
-use Rattle.xrf_setup.specs.declared.choice.Choice.{Choice}
 use Rattle.xrf_setup.specs.declared.choice.Choice.TheVariants as choice
 use Rattle.xrf_history.specs.declared.answer.Answer.{Answer}
 use Rattle.xrf_history.specs.declared.answer.Answer.TheVariants as answer
 use Rattle.xrf_history.specs.Accepting.{IsInTime, accepts, exit_allowed, may_abend, may_command, may_reply}
-use Rattle.xrf_history.specs.Answers.{event, fits}
+use Rattle.xrf_history.specs.Answers.{fits}
 use Rattle.xrf_history.specs.Events.{Event, StartedActive, StartedStandby}
 use Rattle.xrf_history.specs.Holding.{number}
 use Rattle.xrf_history.specs.Next.{next}
 use Rattle.xrf_history.specs.Notices.{notice}
-use Rattle.xrf_trace.specs.declared.entry.Act.{Act}
 use Rattle.xrf_trace.specs.declared.entry.Act.TheVariants as act
 use Rattle.xrf_trace.specs.declared.entry.Entry.{Entry}
 use Rattle.xrf_trace.specs.declared.entry.Land.TheVariants as land
@@ -34,7 +30,7 @@ use Rattle.xrf_trace.specs.Words.{now, who_at}
 use Rattle.xrf_world.specs.Making.{IsReached, IsStarted}
 use Rattle.xrf_world.specs.Seats.{MayBeHanded}
 use Rattle.xrf_world.specs.Standing.{Goes}
-use Rattle.xrf_world.proofs.ActLaws.{own-hist, own-site, outcome-is, or-right}
+use Rattle.xrf_world.proofs.ActLaws.{own-hist, own-site, outcome-is}
 use Rattle.xrf_world.proofs.FollowLaws.{can-follow}
 use Rattle.xrf_world.proofs.TimeLaws.{IsBy, time-of}
 

@@ -1,26 +1,23 @@
 -- What a STOP asks of a World, and what it leaves: from the laws.
-use Rattle.std.proofs.Common.{◌≡◌, ◌≤◌, ◌+◌, ℕ, Bool, true, false, ◌∙◌, sym, ap, subst, refl, arith, if◌then◌else◌, is_some, List, [], ◌∷◌, length, Option, Some, None, IfSome, Ok, Err}
+use Rattle.std.proofs.Common.{◌≡◌, ◌≤◌, ◌+◌, ℕ, Bool, true, false, ◌∙◌, sym, ap, refl, arith, is_some, List, Option, Some, None, Ok, Err}
 use Rattle.xrf_base.specs.declared.site.Site.{Site}
 use Rattle.xrf_setup.specs.declared.choice.Choice.TheVariants as choice
 use Rattle.xrf_setup.specs.declared.choice.Landing.{Landing}
 use Rattle.xrf_setup.specs.declared.choice.Landing.TheVariants as landing
-use Rattle.xrf_setup.specs.declared.ranges.TheConstants.{CHOICES_MOST}
 use Rattle.xrf_history.specs.declared.want.Want.{Want}
 use Rattle.xrf_history.specs.declared.want.Want.TheVariants as want
 use Rattle.xrf_history.specs.Events.{Event}
 use Rattle.xrf_history.specs.Holding.{is_granted, number}
-use Rattle.xrf_history.specs.Next.{next}
 use Rattle.xrf_trace.specs.declared.entry.Act.{Act}
-use Rattle.xrf_trace.specs.declared.entry.Act.TheVariants as act
 use Rattle.xrf_trace.specs.declared.entry.Entry.{Entry}
 use Rattle.xrf_trace.specs.declared.entry.Land.TheVariants as land
 use Rattle.xrf_trace.specs.declared.entry.Refused.{Refused}
 use Rattle.xrf_trace.specs.declared.entry.Refused.TheVariants.{NotEnabled}
-use Rattle.xrf_trace.specs.Acts.{act_of, act_by, next_act}
+use Rattle.xrf_trace.specs.Acts.{act_of, next_act}
 use Rattle.xrf_trace.specs.Entries.{act_cut, entry_at, inc_at, inc_of_act}
-use Rattle.xrf_trace.specs.Jobs.{hist, after_own}
-use Rattle.xrf_trace.specs.Runs.{IsRun, outcome, outcome_of}
-use Rattle.xrf_trace.specs.Scenario.{Scen, settings, work}
+use Rattle.xrf_trace.specs.Jobs.{hist}
+use Rattle.xrf_trace.specs.Runs.{outcome, outcome_of}
+use Rattle.xrf_trace.specs.Scenario.{Scen}
 use Rattle.xrf_trace.specs.Words.{is_item, now, items_taken, who_at}
 use Rattle.xrf_owner_law.specs.Known.{IsKnown}
 use Rattle.xrf_owner_law.proofs.KnownLaw.{known}

@@ -1,7 +1,7 @@
 -- The tick of the last change that a job of a run saw is not after the present one, and its history is no longer than the run.
-use Rattle.std.proofs.Common.{◌≡◌, ◌≤◌, ◌<◌, ◌+◌, ℕ, suc, Bool, true, false, max, if◌then◌else◌, List, [], ◌∷◌, length, Option, Some, None, arith, refl, subst, sym}
+use Rattle.std.proofs.Common.{◌≡◌, ◌≤◌, ℕ, suc, Bool, true, false, max, if◌then◌else◌, List, [], ◌∷◌, length, Option, Some, None, arith, refl, subst, sym}
 use Rattle.xrf_base.specs.declared.site.Site.{Site}
-use Rattle.xrf_cavm.specs.Watch.{Told, Looked, Reset, changes, latest, is_news, last_look}
+use Rattle.xrf_cavm.specs.Watch.{Told, Reset, changes, latest, is_news, last_look}
 use Rattle.xrf_cavm.specs.declared.decisions.Acting.TheVariants as acting
 use Rattle.xrf_cavm.specs.declared.decisions.Decided.{Decided}
 use Rattle.xrf_cavm.specs.declared.decisions.Decided.TheVariants.{Owner}
@@ -9,7 +9,7 @@ use Rattle.xrf_cebt.specs.declared.commands.Cebt.{Cebt}
 use Rattle.xrf_cebt.specs.declared.commands.Cebt.TheVariants.{SetSurveillance}
 use Rattle.xrf_exit.specs.declared.ExitAnswer.{ExitAnswer}
 use Rattle.xrf_exit.specs.declared.ExitAnswer.TheVariants as exit
-use Rattle.xrf_history.specs.Events.{Event, Ticked, Looked2, Replied, Commanded, DecisionMade, Exited, ActFailed}
+use Rattle.xrf_history.specs.Events.{Event, Ticked, ActFailed}
 use Rattle.xrf_base.specs.declared.items.Item.{Item}
 use Rattle.xrf_history.specs.Restarting.{has_read_block}
 use Rattle.xrf_history.specs.Looking.{signal_seen, told_to_watch, told_of_reply, told_of_command, told_of_decision, told_of_exit}

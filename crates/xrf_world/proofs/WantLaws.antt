@@ -1,5 +1,5 @@
 -- What is refused by the next act is refused by what is wanted.
-use Rattle.std.proofs.Common.{◌≡◌, ℕ, Bool, true, false, ◌+◌, ◌∙◌, sym, ap, subst, refl, nat_lt, if◌then◌else◌, List, length, Option, Some, None, IfSome}
+use Rattle.std.proofs.Common.{◌≡◌, ℕ, Bool, true, false, ◌+◌, refl, if◌then◌else◌, List, Option, Some, None}
 use Rattle.xrf_base.specs.declared.site.Site.{Site}
 use Rattle.xrf_setup.specs.declared.choice.Landing.{Landing}
 use Rattle.xrf_setup.specs.declared.choice.Landing.TheVariants as landing
@@ -11,11 +11,10 @@ use Rattle.xrf_history.specs.Next.{next}
 use Rattle.xrf_trace.specs.declared.entry.Act.{Act}
 use Rattle.xrf_trace.specs.declared.entry.Act.TheVariants as act
 use Rattle.xrf_trace.specs.declared.entry.Entry.{Entry}
-use Rattle.xrf_trace.specs.declared.entry.Refused.{Refused}
 use Rattle.xrf_trace.specs.Acts.{act_of, act_by, next_act, is_signal, may_fail}
 use Rattle.xrf_trace.specs.Jobs.{hist}
 use Rattle.xrf_trace.specs.Refusals.{is_next, may_step, stop_refusal, fail_refusal}
-use Rattle.xrf_trace.specs.Scenario.{Scen, settings, work}
+use Rattle.xrf_trace.specs.Scenario.{Scen, settings}
 use Rattle.xrf_trace.specs.Words.{items_taken, reserve_is_free}
 use Rattle.xrf_world.specs.Seats.{want_of}
 use Rattle.xrf_world.specs.Wants as wants

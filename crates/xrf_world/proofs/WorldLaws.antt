@@ -1,5 +1,5 @@
 -- What a World knows of its run, and what a choice leaves of it.
-use Rattle.std.proofs.Common.{◌≡◌, ◌≤◌, ◌<◌, ◌+◌, ◌∙◌, sym, ap, subst, refl, arith, ℕ, IsTrue, List, [], ◌∷◌, ◌++◌, length, reverse, Option, Some, None, Result, Ok, Err, IsOk}
+use Rattle.std.proofs.Common.{◌≡◌, ◌≤◌, ◌<◌, ◌∙◌, sym, ap, subst, refl, arith, ℕ, IsTrue, List, [], ◌∷◌, ◌++◌, length, reverse, Option, Some, None, Result, Ok, Err}
 use Rattle.std.proofs.lemmas.List.{length-reverse, reverse-append, length-append}
 use Rattle.xrf_exit.specs.Exit.{is_allowed}
 use Rattle.xrf_exit.specs.declared.ExitAnswer.{ExitAnswer}
@@ -11,13 +11,11 @@ use Rattle.xrf_setup.specs.declared.choice.Choice.TheVariants as choice
 use Rattle.xrf_setup.specs.declared.ranges.TheConstants.{CHOICES_MOST}
 use Rattle.xrf_trace.specs.declared.entry.Entry.{Entry}
 use Rattle.xrf_trace.specs.declared.entry.Refused.{Refused}
-use Rattle.xrf_trace.specs.declared.entry.Refused.TheVariants.{NotAllowed}
 use Rattle.xrf_trace.specs.FileIsBook.{IsBookAt}
-use Rattle.xrf_trace.specs.Entries.{entry}
 use Rattle.xrf_trace.specs.Log.{log}
 use Rattle.xrf_trace.specs.Promises.{Promises}
-use Rattle.xrf_trace.specs.Refusals.{exit_refusal, refusal, unless}
-use Rattle.xrf_trace.specs.Runs.{IsRun, outcome, outcome_of}
+use Rattle.xrf_trace.specs.Refusals.{exit_refusal, refusal}
+use Rattle.xrf_trace.specs.Runs.{IsRun}
 use Rattle.xrf_trace.specs.Safe.{Safe}
 use Rattle.xrf_trace.specs.Scenario.{IsScen, Scen}
 use Rattle.xrf_laws.proofs.EveryRun.{every-run}

@@ -1,6 +1,5 @@
 -- What is known where an entry is made, and what it leaves.
-use Rattle.std.specs.Prelude.{◌≡◌, ◌<◌, ◌≤◌, ◌*◌, ◌+◌, ◌==◌, ℕ, true, if◌then◌else◌, List, [], ◌∷◌, Option, Some, None, Result, Ok, Err}
-use Rattle.std.specs.Option.{option_and_then}
+use Rattle.std.specs.Prelude.{◌≡◌, ◌<◌, ◌≤◌, ◌*◌, ◌+◌, ◌==◌, ℕ, if◌then◌else◌, List, [], ◌∷◌, Option, Some, None, Result, Ok, Err}
 use Rattle.xrf_base.specs.declared.items.ItemAnswer.{ItemAnswer}
 use Rattle.xrf_base.specs.declared.site.Site.{Site}
 use Rattle.xrf_devices.specs.Writing.{MayLand}
@@ -14,7 +13,6 @@ use Rattle.xrf_history.specs.declared.want.Want.TheVariants as want
 use Rattle.xrf_history.specs.Answers.{event}
 use Rattle.xrf_history.specs.Events.{Event}
 use Rattle.xrf_history.specs.Holding.{number}
-use Rattle.xrf_history.specs.Next.{next}
 use Rattle.xrf_history.specs.Reserving.{last_decision}
 use Rattle.xrf_history.specs.Working.{item_answer}
 use Rattle.xrf_trace.specs.declared.entry.Act.{Act}

@@ -1,13 +1,10 @@
-use Rattle.std.proofs.Common.{◌≡◌, ◌∙◌, ◌+◌, ◌∷◌, ℕ, List, Option, Some, ap, arith, refl, subst, sym}
+use Rattle.std.proofs.Common.{◌≡◌, ◌∙◌, ◌+◌, ◌∷◌, ℕ, List, Option, Some, ap, arith, subst, sym}
 use Rattle.xrf_base.specs.declared.items.ItemAnswer.{ItemAnswer}
 use Rattle.xrf_cavm.specs.declared.decisions.Decided.{Decided}
 use Rattle.xrf_history.specs.Answers.{event}
 use Rattle.xrf_history.specs.Events.{Event}
 use Rattle.xrf_history.specs.Holding.{number}
 use Rattle.xrf_history.specs.Reserving.{last_decision}
-use Rattle.xrf_history.specs.Working.{item_answer}
-use Rattle.xrf_trace.specs.Items.{number_of_job}
-use Rattle.xrf_trace.specs.Jobs.{hist}
 use Rattle.xrf_trace.specs.Scenario.{settings}
 use Rattle.xrf_trace.specs.Words.{items_taken, now, who_at}
 use Rattle.xrf_world.specs.Making.{CanRecord, inc_of_want}

@@ -1,13 +1,11 @@
-use Rattle.std.proofs.Common.{◌≡◌, ◌∙◌, Bool, true, false, ap, sym, Some, is_some}
+use Rattle.std.proofs.Common.{◌≡◌, ◌∙◌, Bool, ap, sym, Some, is_some}
 use Rattle.xrf_base.specs.declared.site.Site.{Site}
-use Rattle.xrf_setup.specs.declared.choice.Choice.{Choice}
 use Rattle.xrf_setup.specs.declared.choice.Choice.TheVariants as choice
 use Rattle.xrf_history.specs.declared.want.Want.{Want}
 use Rattle.xrf_trace.specs.declared.entry.Refused.TheVariants.{NotEnabled}
 use Rattle.xrf_trace.specs.Refusals.{refusal, unless}
 use Rattle.xrf_trace.specs.Jobs.{hist}
 use Rattle.xrf_trace.specs.Scenario.{settings}
-use Rattle.xrf_trace.specs.Words.{reserve_is_free}
 use Rattle.xrf_world.specs.Making.{site_of}
 use Rattle.xrf_world.specs.Wants as wants
 use Rattle.xrf_world.specs.Wants.{may_make, wanted}

@@ -1,4 +1,4 @@
-use Rattle.std.proofs.Common.{◌≡◌, ◌∙◌, ℕ, Bool, List, length, nat_lt, ap, arith}
+use Rattle.std.proofs.Common.{◌≡◌, ◌∙◌, ℕ, List, length, nat_lt, ap, arith}
 use Rattle.xrf_base.specs.declared.items.Item.{Item}
 use Rattle.xrf_history.specs.declared.want.Want.{Want}
 use Rattle.xrf_trace.specs.Jobs.{hist}

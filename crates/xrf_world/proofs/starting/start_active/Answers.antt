@@ -1,4 +1,4 @@
-use Rattle.std.proofs.Common.{◌≡◌, ◌∙◌, [], ◌∷◌, List, Option, None, Some, true, false, is_none, is_some, refl, subst, sym}
+use Rattle.std.proofs.Common.{◌≡◌, ◌∙◌, [], ◌∷◌, List, Option, None, Some, true, is_none, refl, subst, sym}
 use Rattle.xrf_setup.specs.declared.choice.Choice.TheVariants as choice
 use Rattle.xrf_history.specs.Events.{Event, StartedActive}
 use Rattle.xrf_trace.specs.declared.entry.Act.TheVariants as act

@@ -1,7 +1,6 @@
-use Rattle.std.proofs.Common.{◌≡◌, ◌∙◌, Bool, List, true, false, ap, refl, subst, sym}
+use Rattle.std.proofs.Common.{◌≡◌, ◌∙◌, Bool, true, false, ap, refl, subst, sym}
 use Rattle.xrf_history.specs.declared.want.Want.{Want}
 use Rattle.xrf_setup.specs.declared.choice.Choice.TheVariants as choice
-use Rattle.xrf_trace.specs.declared.entry.Entry.{Entry}
 use Rattle.xrf_trace.specs.declared.entry.Land.TheVariants as land
 use Rattle.xrf_trace.specs.Words.{reserve_is_free}
 use Rattle.xrf_world.specs.Making.{IsMade}

@@ -1,6 +1,5 @@
-use Rattle.std.proofs.Common.{sym, subst, ◌≡◌, Some}
+use Rattle.std.proofs.Common.{sym, subst}
 use Rattle.xrf_base.specs.declared.site.Site.{Site}
-use Rattle.xrf_base.specs.declared.site.Site.TheVariants as site
 use Rattle.xrf_world.specs.Making.{MakesAt}
 use Rattle.xrf_world.specs.Standing.{StandsAt}
 use Rattle.xrf_world.proofs.BesideLaws.{of-a, of-b}

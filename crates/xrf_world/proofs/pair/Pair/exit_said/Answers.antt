@@ -1,9 +1,7 @@
-use Rattle.std.proofs.Common.{sym, subst, ◌≡◌, Ok, None}
+use Rattle.std.proofs.Common.{sym, subst, Ok}
 use Rattle.xrf_base.specs.declared.site.Site.{Site}
-use Rattle.xrf_base.specs.declared.site.Site.TheVariants as site
 use Rattle.xrf_setup.specs.declared.choice.Choice.TheVariants as choice
-use Rattle.xrf_trace.specs.Refusals.{refusal}
-use Rattle.xrf_world.specs.Making.{Makes, MakesAt}
+use Rattle.xrf_world.specs.Making.{MakesAt}
 use Rattle.xrf_world.specs.Standing.{StandsAt}
 use Rattle.xrf_world.proofs.BesideLaws.{of-a, of-b}
 use Rattle.xrf_world.proofs.pair.Pair.exit_said.Goals as goal

@@ -1,4 +1,4 @@
-use Rattle.std.proofs.Common.{◌≡◌, ◌∙◌, ℕ, Bool, ap, sym, arith, not, nat_le, ◌&&◌}
+use Rattle.std.proofs.Common.{◌∙◌, ℕ, ap, sym, arith, not, nat_le, ◌&&◌}
 use Rattle.xrf_trace.specs.Jobs.{live}
 use Rattle.xrf_world.proofs.ChoiceLaws.{past-last, up-to-last}
 use Rattle.xrf_world.proofs.pair.Pair.may_confirm.Goals as goal

@@ -1,4 +1,4 @@
-use Rattle.std.proofs.Common.{◌≡◌, ◌∙◌, sym, ap}
+use Rattle.std.proofs.Common.{◌∙◌, sym, ap}
 use Rattle.xrf_world.specs.Seats.{seen_after, read_after}
 use Rattle.xrf_world.proofs.SeatLaws.{event_sees, event_reads}
 use Rattle.xrf_world.proofs.seat.Seat.take.Goals as goal

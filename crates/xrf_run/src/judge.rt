@@ -32,8 +32,8 @@ fn is_same(one: &Choice, other: &Choice) -> bool {
 }
 
 impl<'a> Judge<'a> {
-    /// Before the first choice.
-    pub(crate) fn new(alloc: Global, scenario: &'a Scenario) -> Result<Judge<'a>, AllocError> {
+    // before the first choice
+    fn new(alloc: Global, scenario: &'a Scenario) -> Result<Judge<'a>, AllocError> {
         let mut offered = Vec::new(alloc);
         offered.push(true)?;
         for _ in scenario.plan() {
@@ -165,8 +165,8 @@ impl<'a> Judge<'a> {
         }
     }
 
-    /// Follows one choice more, and says whether the rules allow it.
-    pub(crate) fn follow(&mut self, alloc: Global, choice: &Choice) -> Result<bool, AllocError> {
+    // follows one choice more, and says whether the rules allow it.
+    fn follow(&mut self, alloc: Global, choice: &Choice) -> Result<bool, AllocError> {
         self.pass_lines(alloc)?;
         let is_allowed = self.allow(alloc, choice)?;
         if self.world.journal().len() >= CHOICES_MOST {
@@ -190,14 +190,24 @@ impl<'a> Judge<'a> {
         !self.world.is_enabled(&Choice::Step(site)) && self.world.notice(site).is_none()
     }
 
-    /// Whether the run has ended.
-    pub(crate) fn has_ended(&mut self, alloc: Global) -> Result<bool, AllocError> {
+    // whether the run has ended
+    fn has_ended(&mut self, alloc: Global) -> Result<bool, AllocError> {
         self.pass_lines(alloc)?;
         self.tick_lines(alloc)?;
         let is_over = self.world.now() >= self.scenario.ticks()
             && self.is_at_rest(Site::A)
             && self.is_at_rest(Site::B);
         Ok(self.world.journal().len() >= CHOICES_MOST || (is_over && self.is_offered()))
+    }
+
+    // the rules allow all choices, and the run has ended with them
+    fn follow_to_the_end(&mut self, alloc: Global, choices: &[Choice]) -> Result<bool, AllocError> {
+        for choice in choices {
+            if !self.follow(alloc, choice)? {
+                return Ok(false);
+            }
+        }
+        self.has_ended(alloc)
     }
 }
 
@@ -209,10 +219,5 @@ pub(crate) fn is_threaded_run(
     choices: &[Choice],
 ) -> Result<bool, AllocError> {
     let mut judge = Judge::new(alloc, scenario)?;
-    for choice in choices {
-        if !judge.follow(alloc, choice)? {
-            return Ok(false);
-        }
-    }
-    judge.has_ended(alloc)
+    judge.follow_to_the_end(alloc, choices)
 }

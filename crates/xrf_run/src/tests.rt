@@ -180,6 +180,14 @@ fn run<R: Threads + Wait + Sync, G: Gate + Sync>(
     live(rt, alloc, scenario, gate, &exit)
 }
 
+// the choices are those of a threaded run, as the judge finds
+fn is_judged(alloc: Global, scenario: &Scenario, choices: &[Choice]) -> bool {
+    match is_threaded_run(alloc, scenario, choices) {
+        Ok(is) => is,
+        Err(_) => false,
+    }
+}
+
 fn has_kept(choices: &[Choice]) -> bool {
     for choice in choices {
         if let Choice::Exit(Site::A, ExitAnswer::Keep) = choice {
@@ -201,7 +209,7 @@ fn the_first_turns_of_both_sites_meet(rt: HostRuntime) -> Result<(), Fail> {
     assert!(rt; !gate.has_failed.load(Ordering::SeqCst));
     assert_eq!(rt; world.now(), 10);
     assert_eq!(rt; world.job(Site::B), JobState::Active(2));
-    assert!(rt; is_threaded_run(rt.alloc(), &scenario, choices.as_slice())?);
+    assert!(rt; is_judged(rt.alloc(), &scenario, choices.as_slice()));
     Ok(())
 }
 
@@ -218,7 +226,7 @@ fn the_site_that_the_gate_lets_through_first_is_the_owner(rt: HostRuntime) -> Re
         assert_eq!(rt; world.job(owner), JobState::Active(1), "{first:?}");
         assert_eq!(rt; world.job(other), JobState::Absent, "{first:?}");
         assert!(rt;
-            is_threaded_run(rt.alloc(), &scenario, choices.as_slice())?,
+            is_judged(rt.alloc(), &scenario, choices.as_slice()),
             "{first:?}"
         );
     }
@@ -231,7 +239,7 @@ fn a_hundred_runs_are_threaded_runs(rt: HostRuntime) -> Result<(), Fail> {
     for number in 0..100u32 {
         let (world, choices) = run(&rt, rt.alloc(), &scenario, &OpenGate)?;
         assert!(rt;
-            is_threaded_run(rt.alloc(), &scenario, choices.as_slice())?,
+            is_judged(rt.alloc(), &scenario, choices.as_slice()),
             "run {number}"
         );
         assert_eq!(rt; world.now(), 10, "run {number}");
@@ -250,10 +258,7 @@ fn thirty_two_runs_at_once(rt: HostRuntime) -> Result<(), Fail> {
         alloc,
         32,
         &|_number| match run(&rt, alloc, &scenario, &OpenGate) {
-            Ok((_, choices)) => match is_threaded_run(alloc, &scenario, choices.as_slice()) {
-                Ok(is) => is,
-                Err(_) => false,
-            },
+            Ok((_, choices)) => is_judged(alloc, &scenario, choices.as_slice()),
             Err(_) => false,
         },
     )?;
@@ -268,7 +273,7 @@ fn the_exit_answers_the_loss_of_the_alternate(rt: HostRuntime) -> Result<(), Fai
     let (scenario, _) = read(rt.alloc(), LOSS)?;
     let (_, choices) = run(&rt, rt.alloc(), &scenario, &OpenGate)?;
     assert!(rt; has_kept(choices.as_slice()));
-    assert!(rt; is_threaded_run(rt.alloc(), &scenario, choices.as_slice())?);
+    assert!(rt; is_judged(rt.alloc(), &scenario, choices.as_slice()));
     Ok(())
 }
 
@@ -277,7 +282,7 @@ fn a_run_of_the_longest_ticks(rt: HostRuntime) -> Result<(), Fail> {
     let (scenario, _) = read(rt.alloc(), LONG)?;
     let (world, choices) = run(&rt, rt.alloc(), &scenario, &OpenGate)?;
     assert_eq!(rt; world.now(), 200);
-    assert!(rt; is_threaded_run(rt.alloc(), &scenario, choices.as_slice())?);
+    assert!(rt; is_judged(rt.alloc(), &scenario, choices.as_slice()));
     Ok(())
 }
 
@@ -309,7 +314,7 @@ fn by_turns<N: RunName, R: Abort>(rt: &R, alloc: Global, scenario: &Scenario) ->
     shared.finish_alone(&exit);
     assert_eq!(rt; shared.world().now(), 10);
     assert_eq!(rt; shared.environment_turn(), Turn::Nothing);
-    assert!(rt; is_threaded_run(alloc, scenario, shared.choices())?);
+    assert!(rt; is_judged(alloc, scenario, shared.choices()));
     let (world, choices) = shared.into_parts();
     assert_eq!(rt; world.journal().len(), choices.len());
     Ok(())
@@ -369,10 +374,7 @@ fn the_judge_finds_what_breaks_a_rule(rt: HostRuntime) -> Result<(), Fail> {
         for line in numbered.iter() {
             choices.push(line.choice)?;
         }
-        assert_eq!(rt;
-            is_threaded_run(rt.alloc(), &scenario, choices.as_slice())?,
-            want
-        );
+        assert_eq!(rt; is_judged(rt.alloc(), &scenario, choices.as_slice()), want);
     }
     Ok(())
 }

@@ -1,7 +1,9 @@
 //! Tests of the threaded run.
 
 ghost use Rattle.std.specs.Prelude.{◌≡◌};
+ghost use Rattle.xrf_exit.specs.Exit.{AnswersAllowed};
 ghost use Rattle.xrf_exit.specs.declared.ExitAnswer.TheVariants.{Keep};
+ghost use Rattle.xrf_run.specs.Answering.{UponLoss};
 
 use super::*;
 use crate::judge::is_threaded_run;
@@ -12,7 +14,7 @@ use std::sync::Wait;
 use std::sync::atomic::{AtomicBool, AtomicU64, Ordering};
 use std::test::Fail;
 use std::thread::{self, Threads};
-use xrf_base::Site;
+use xrf_base::{Site, Tick};
 use xrf_exit::{ExitAnswer, Notice};
 use xrf_scenario::read;
 use xrf_setup::ranges::PACE_MOST;
@@ -180,6 +182,37 @@ fn run<R: Threads + Wait + Sync, G: Gate + Sync>(
     live(rt, alloc, scenario, gate, &exit)
 }
 
+// What a run comes to.
+#[derive(Clone, Copy)]
+struct Outcome {
+    now: Tick,
+    a: JobState,
+    b: JobState,
+    has_kept: bool,
+    // the choices are those of a threaded run, as the judge finds
+    is_judged: bool,
+}
+
+fn outcome_of(alloc: Global, scenario: &Scenario, world: &World, choices: &[Choice]) -> Outcome {
+    Outcome {
+        now: world.now(),
+        a: world.job(Site::A),
+        b: world.job(Site::B),
+        has_kept: has_kept(choices),
+        is_judged: is_judged(alloc, scenario, choices),
+    }
+}
+
+fn run_outcome<R: Threads + Wait + Sync, G: Gate + Sync>(
+    rt: &R,
+    alloc: Global,
+    scenario: &Scenario,
+    gate: &G,
+) -> Result<Outcome, AllocError> {
+    let (world, choices) = run(rt, alloc, scenario, gate)?;
+    Ok(outcome_of(alloc, scenario, &world, choices.as_slice()))
+}
+
 // the choices are those of a threaded run, as the judge finds
 fn is_judged(alloc: Global, scenario: &Scenario, choices: &[Choice]) -> bool {
     match is_threaded_run(alloc, scenario, choices) {
@@ -205,31 +238,28 @@ fn the_first_turns_of_both_sites_meet(rt: HostRuntime) -> Result<(), Fail> {
         b: AtomicBool::new(false),
         has_failed: AtomicBool::new(false),
     };
-    let (world, choices) = run(&rt, rt.alloc(), &scenario, &gate)?;
+    let came = run_outcome(&rt, rt.alloc(), &scenario, &gate)?;
     assert!(rt; !gate.has_failed.load(Ordering::SeqCst));
-    assert_eq!(rt; world.now(), 10);
-    assert_eq!(rt; world.job(Site::B), JobState::Active(2));
-    assert!(rt; is_judged(rt.alloc(), &scenario, choices.as_slice()));
+    assert_eq!(rt; came.now, 10);
+    assert_eq!(rt; came.b, JobState::Active(2));
+    assert!(rt; came.is_judged);
     Ok(())
 }
 
 #[test]
 fn the_site_that_the_gate_lets_through_first_is_the_owner(rt: HostRuntime) -> Result<(), Fail> {
     let (scenario, _) = read(rt.alloc(), BOTH)?;
-    for (first, owner, other) in [
-        (Actor::SiteA, Site::A, Site::B),
-        (Actor::SiteB, Site::B, Site::A),
-    ] {
-        let gate = Order::new(first);
-        let (world, choices) = run(&rt, rt.alloc(), &scenario, &gate)?;
-        assert!(rt; !gate.has_failed.load(Ordering::SeqCst), "{first:?}");
-        assert_eq!(rt; world.job(owner), JobState::Active(1), "{first:?}");
-        assert_eq!(rt; world.job(other), JobState::Absent, "{first:?}");
-        assert!(rt;
-            is_judged(rt.alloc(), &scenario, choices.as_slice()),
-            "{first:?}"
-        );
-    }
+    let gate = Order::new(Actor::SiteA);
+    let came = run_outcome(&rt, rt.alloc(), &scenario, &gate)?;
+    assert!(rt; !gate.has_failed.load(Ordering::SeqCst));
+    assert_eq!(rt; came.a, JobState::Active(1));
+    assert_eq!(rt; came.b, JobState::Absent);
+    let gate = Order::new(Actor::SiteB);
+    let came = run_outcome(&rt, rt.alloc(), &scenario, &gate)?;
+    assert!(rt; !gate.has_failed.load(Ordering::SeqCst));
+    assert_eq!(rt; came.a, JobState::Absent);
+    assert_eq!(rt; came.b, JobState::Active(1));
+    assert!(rt; came.is_judged);
     Ok(())
 }
 
@@ -237,14 +267,11 @@ fn the_site_that_the_gate_lets_through_first_is_the_owner(rt: HostRuntime) -> Re
 fn a_hundred_runs_are_threaded_runs(rt: HostRuntime) -> Result<(), Fail> {
     let (scenario, _) = read(rt.alloc(), TAKEOVER)?;
     for number in 0..100u32 {
-        let (world, choices) = run(&rt, rt.alloc(), &scenario, &OpenGate)?;
-        assert!(rt;
-            is_judged(rt.alloc(), &scenario, choices.as_slice()),
-            "run {number}"
-        );
-        assert_eq!(rt; world.now(), 10, "run {number}");
-        assert_eq!(rt; world.job(Site::A), JobState::Absent, "run {number}");
-        assert_eq!(rt; world.job(Site::B), JobState::Active(2), "run {number}");
+        let came = run_outcome(&rt, rt.alloc(), &scenario, &OpenGate)?;
+        assert!(rt; came.is_judged, "run {number}");
+        assert_eq!(rt; came.now, 10, "run {number}");
+        assert_eq!(rt; came.a, JobState::Absent, "run {number}");
+        assert_eq!(rt; came.b, JobState::Active(2), "run {number}");
     }
     Ok(())
 }
@@ -257,8 +284,8 @@ fn thirty_two_runs_at_once(rt: HostRuntime) -> Result<(), Fail> {
         &rt,
         alloc,
         32,
-        &|_number| match run(&rt, alloc, &scenario, &OpenGate) {
-            Ok((_, choices)) => is_judged(alloc, &scenario, choices.as_slice()),
+        &|_number| match run_outcome(&rt, alloc, &scenario, &OpenGate) {
+            Ok(came) => came.is_judged,
             Err(_) => false,
         },
     )?;
@@ -271,23 +298,57 @@ fn thirty_two_runs_at_once(rt: HostRuntime) -> Result<(), Fail> {
 #[test]
 fn the_exit_answers_the_loss_of_the_alternate(rt: HostRuntime) -> Result<(), Fail> {
     let (scenario, _) = read(rt.alloc(), LOSS)?;
-    let (_, choices) = run(&rt, rt.alloc(), &scenario, &OpenGate)?;
-    assert!(rt; has_kept(choices.as_slice()));
-    assert!(rt; is_judged(rt.alloc(), &scenario, choices.as_slice()));
+    let came = run_outcome(&rt, rt.alloc(), &scenario, &OpenGate)?;
+    assert!(rt; came.has_kept);
+    assert!(rt; came.is_judged);
     Ok(())
 }
 
 #[test]
 fn a_run_of_the_longest_ticks(rt: HostRuntime) -> Result<(), Fail> {
     let (scenario, _) = read(rt.alloc(), LONG)?;
-    let (world, choices) = run(&rt, rt.alloc(), &scenario, &OpenGate)?;
-    assert_eq!(rt; world.now(), 200);
-    assert!(rt; is_judged(rt.alloc(), &scenario, choices.as_slice()));
+    let came = run_outcome(&rt, rt.alloc(), &scenario, &OpenGate)?;
+    assert_eq!(rt; came.now, 200);
+    assert!(rt; came.is_judged);
     Ok(())
 }
 
 // The turns of a run, made one after the other.
-fn by_turns<N: RunName, R: Abort>(rt: &R, alloc: Global, scenario: &Scenario) -> Result<(), Fail>
+fn make_turns<N: RunName, R: Abort, F: Fn(Notice) -> ExitAnswer>(
+    rt: &R,
+    shared: &mut Shared<N>,
+    exit: &StatusExit<F>,
+)
+    requires callable { F.IsAlwaysCallable exit.now.closure }
+    requires allowed { AnswersAllowed (F.post exit.now.closure) }
+    requires may { UponLoss (F.post exit.now.closure) N.may }
+{
+    assert_eq!(rt; shared.site_turn(Site::A, exit), Turn::Nothing);
+    assert_eq!(rt; shared.environment_turn(), Turn::Applied);
+    assert_eq!(rt; shared.environment_turn(), Turn::Nothing);
+    for _ in 0..PACE_MOST {
+        if shared.site_turn(Site::A, exit) == Turn::Nothing {
+            break;
+        }
+    }
+    assert_eq!(rt; shared.site_turn(Site::A, exit), Turn::Nothing);
+    assert_eq!(rt; shared.site_turn(Site::B, exit), Turn::Nothing);
+    assert_eq!(rt; shared.environment_turn(), Turn::Applied);
+    assert_eq!(rt; shared.world().now(), 1);
+    assert_eq!(rt; shared.environment_turn(), Turn::Dropped);
+    assert_eq!(rt; shared.environment_turn(), Turn::Nothing);
+    assert_eq!(rt; shared.site_turn(Site::A, exit), Turn::Applied);
+    shared.finish_alone(exit);
+    assert_eq!(rt; shared.world().now(), 10);
+    assert_eq!(rt; shared.environment_turn(), Turn::Nothing);
+}
+
+// a run that is made by turns, whose choices the judge finds to be a threaded run
+fn by_turns<N: RunName, R: Abort>(
+    rt: &R,
+    alloc: Global,
+    scenario: &Scenario,
+) -> Result<bool, AllocError>
     requires scenario { N.scenario ≡ scenario.now }
     requires keep { N.may Keep }
 {
@@ -296,34 +357,15 @@ fn by_turns<N: RunName, R: Abort>(rt: &R, alloc: Global, scenario: &Scenario) ->
         Notice::AlternateLost => ExitAnswer::Keep,
     });
     let mut shared = Shared::<N>::new(alloc, scenario)?;
-    assert_eq!(rt; shared.site_turn(Site::A, &exit), Turn::Nothing);
-    assert_eq!(rt; shared.environment_turn(), Turn::Applied);
-    assert_eq!(rt; shared.environment_turn(), Turn::Nothing);
-    for _ in 0..PACE_MOST {
-        if shared.site_turn(Site::A, &exit) == Turn::Nothing {
-            break;
-        }
-    }
-    assert_eq!(rt; shared.site_turn(Site::A, &exit), Turn::Nothing);
-    assert_eq!(rt; shared.site_turn(Site::B, &exit), Turn::Nothing);
-    assert_eq!(rt; shared.environment_turn(), Turn::Applied);
-    assert_eq!(rt; shared.world().now(), 1);
-    assert_eq!(rt; shared.environment_turn(), Turn::Dropped);
-    assert_eq!(rt; shared.environment_turn(), Turn::Nothing);
-    assert_eq!(rt; shared.site_turn(Site::A, &exit), Turn::Applied);
-    shared.finish_alone(&exit);
-    assert_eq!(rt; shared.world().now(), 10);
-    assert_eq!(rt; shared.environment_turn(), Turn::Nothing);
-    assert!(rt; is_judged(alloc, scenario, shared.choices()));
-    let (world, choices) = shared.into_parts();
-    assert_eq!(rt; world.journal().len(), choices.len());
-    Ok(())
+    make_turns(rt, &mut shared, &exit);
+    Ok(is_judged(alloc, scenario, shared.choices()))
 }
 
 #[test]
 fn turns_by_hand(rt: HostRuntime) -> Result<(), Fail> {
     let (scenario, _) = read(rt.alloc(), REFUSED)?;
-    by_turns::<Brand, _>(&rt, rt.alloc(), &scenario)
+    assert!(rt; by_turns::<Brand, _>(&rt, rt.alloc(), &scenario)?);
+    Ok(())
 }
 
 #[test]

@@ -254,6 +254,7 @@ fn the_site_that_the_gate_lets_through_first_is_the_owner(rt: HostRuntime) -> Re
     assert!(rt; !gate.has_failed.load(Ordering::SeqCst));
     assert_eq!(rt; came.a, JobState::Active(1));
     assert_eq!(rt; came.b, JobState::Absent);
+    assert!(rt; came.is_judged);
     let gate = Order::new(Actor::SiteB);
     let came = run_outcome(&rt, rt.alloc(), &scenario, &gate)?;
     assert!(rt; !gate.has_failed.load(Ordering::SeqCst));

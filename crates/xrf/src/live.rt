@@ -14,9 +14,9 @@ use std::alloc::{AllocError, Global};
 use std::sync::Wait;
 use std::thread::Threads;
 use xrf_edge::{ReadError, Sink, Source, read_all};
-use xrf_exit::{ExitAnswer, Notice};
+use xrf_exit::{ExitAnswer, Notice, StatusExit};
 use xrf_report::document;
-use xrf_run::{Gate, StatusExit, live};
+use xrf_run::{Gate, live};
 use xrf_scenario::{Numbered, ReadBad, Reason as Fault, Scenario, read};
 use xrf_setup::ranges::INPUT_MOST;
 

@@ -14,8 +14,8 @@ use std::alloc::Global;
 use std::sync::Wait;
 use std::thread::Threads;
 use xrf_edge::{Sink, Source};
-use xrf_exit::{ExitAnswer, Notice};
-use xrf_run::{Gate, StatusExit};
+use xrf_exit::{ExitAnswer, Notice, StatusExit};
+use xrf_run::Gate;
 
 fn is_run_word(word: &str) -> bool
     ensures { result ≡ pointwise nat_eq word.now (codes "run") }

@@ -1,6 +1,6 @@
 use Rattle.std.proofs.Common.{◌≡◌, ◌≤◌, take, reverse}
 use Rattle.xrf_report.specs.Summary.{stops}
-use Rattle.xrf_report.proofs.drawn.count_stops.Given as goal
+use Rattle.xrf_report.proofs.summing.count_stops.Given as goal
 
 -- the stops of the entries so far
 abbrev pub invariant-loop-entry : goal.invariant-loop-entry

@@ -1,4 +1,4 @@
-//! The summary of a drawn run.
+//! The summary of a generated run.
 
 ghost use Rattle.std.specs.Prelude.{◌≡◌, ◌++◌, ◌&&◌, OnOk, IfOk, reverse};
 ghost use Rattle.xrf_cavm.specs.Record.{inc_of_owner};
@@ -139,7 +139,7 @@ fn put_head(alloc: Global, out: &mut Vec<u8>, seed: u64, turns: u32) -> Result<(
     )
 }
 
-/// The nine lines that a drawn run is told in, by the seed and the number of turns that it was drawn with.
+/// The nine lines that a generated run is told in, by the seed and the number of turns that it was drawn with.
 pub fn summary(alloc: Global, seed: u64, turns: u32, world: &World) -> Result<Vec<u8>, AllocError>
     ensures { IfOk result (λ text. text.items ≡ summary_text seed turns world.now.trace) }
 {

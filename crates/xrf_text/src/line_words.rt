@@ -7,12 +7,12 @@ use crate::split_word;
 use std::marker::Model;
 
 /// How many words are held at most.
-const MOST: usize = 16;
+const MOST: usize = 8;
 
-/// The words of a line that has at most 16. Contracts see the list of the words.
+/// The words of a line that has at most 8. Contracts see the list of the words.
 #[derive(Drop)]
 pub struct LineWords<'a> {
-    words: [&'a [u8]; 16],
+    words: [&'a [u8]; 8],
     count: usize,
 }
 
@@ -24,16 +24,16 @@ impl<'a> Model for LineWords<'a> {
 
     ghost view = { λ w. texts (take w.count w.words) };
 
-    ghost invariant = { λ w. w.count ≤ 16 };
+    ghost invariant = { λ w. w.count ≤ 8 };
 }
 
 impl<'a> LineWords<'a> {
-    /// The words of a line; none where there are more than 16.
+    /// The words of a line; none where there are more than 8.
     #[inline]
     pub fn split(line: &'a [u8]) -> Option<LineWords<'a>>
         ensures { IfSome result (λ found. found ≡ words line.now) }
     {
-        let mut words: [&'a [u8]; 16] = [&[]; 16];
+        let mut words: [&'a [u8]; 8] = [&[]; 8];
         let mut count = 0;
         let mut rest = line;
         while let Some((word, behind)) = split_word(rest) {

@@ -7,7 +7,7 @@ use Rattle.xrf_text.proofs.line_words.LineWords.split.Goals as goal
 
 pub loop-word-preserved : goal.loop-word-preserved
 loop-word-preserved c =
-    let room : c.loop-word.count + 1 ≤ 16 = grind (arith, nat_tests) in
+    let room : c.loop-word.count + 1 ≤ 8 = grind (arith, nat_tests) in
     let inside : c.loop-word.count < length c.loop-word.words = omega (arith, c.loop-word.invariant.1) in (
       room,
       length-set c.loop-word.words c.loop-word.count c.in-Some.word ∙ c.loop-word.invariant.1,

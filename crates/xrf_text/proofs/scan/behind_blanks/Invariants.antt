@@ -1,6 +1,6 @@
 use Rattle.std.proofs.Common.{◌≡◌, ◌≤◌, length}
 use Rattle.xrf_text.specs.Text.{words}
-use Rattle.xrf_text.proofs.scan.from_first_word.Given as goal
+use Rattle.xrf_text.proofs.scan.behind_blanks.Given as goal
 
 abbrev pub invariant-loop-rest : goal.invariant-loop-rest
 invariant-loop-rest l = (words l.rest ≡ words l.line) × (length l.rest ≤ length l.line)

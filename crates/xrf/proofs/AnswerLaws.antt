@@ -1,10 +1,10 @@
 -- What is answered, from what is made and what is written.
 use Rattle.std.proofs.Common.{◌≡◌, inl, inr, ◌<◌, ℕ, List, [], length, Option, Some, None, IfSome, refl, sym, subst, arith}
-use Rattle.xrf_edge.specs.Ends.{ReadToEnd, AppendsPrefix, came}
+use Rattle.xrf_edge.specs.Ends.{End, ReadToEnd, AppendsPrefix, came}
 use Rattle.xrf_edge.specs.Faults.{HasRisen}
 use Rattle.xrf.specs.Refusals.{IsRefusal, refusal_line}
 use Rattle.xrf.specs.Made.{IsDocument, IsMade}
-use Rattle.xrf.specs.Answer.{End, Said, Refusing, WritesMade, Replayed, Writes, Refuses, IsText}
+use Rattle.xrf.specs.Answer.{Said, Refusing, WritesMade, Replayed, Writes, Refuses, IsText}
 use Rattle.xrf.specs.declared.refusal.Reason.{Reason}
 use Rattle.xrf.specs.declared.refusal.Reason.TheVariants.{Grammar}
 use Rattle.xrf_grammar.specs.declared.reason.Reason.TheVariants.{TooLarge}

@@ -1,6 +1,7 @@
 -- What is said of a generated run is its summary.
 use Rattle.std.proofs.Common.{◌≡◌, inl, inr, List, ℕ, sym, subst}
-use Rattle.xrf.specs.Answer.{End, Said}
+use Rattle.xrf_edge.specs.Ends.{End}
+use Rattle.xrf.specs.Answer.{Said}
 use Rattle.xrf.specs.Driven.{Driven, IsSummary}
 use Rattle.xrf.specs.declared.drive_words.Asked.{Asked}
 use Rattle.xrf.specs.declared.status.Status.{Status}

@@ -1,6 +1,6 @@
 -- What is answered to `run`, from what is made and what is written.
 use Rattle.std.proofs.Common.{◌≡◌, ◌⊎◌, inl, inr, ◌<◌, ◌≤◌, ℕ, List, [], ◌∷◌, length, reverse, Option, Some, None, IfSome, Ok, refl, sym, subst, arith}
-use Rattle.xrf_edge.specs.Ends.{ReadToEnd, AppendsPrefix, came}
+use Rattle.xrf_edge.specs.Ends.{End, ReadToEnd, AppendsPrefix, came}
 use Rattle.xrf_edge.specs.Faults.{HasRisen}
 use Rattle.xrf_exit.specs.declared.ExitAnswer.{ExitAnswer}
 use Rattle.xrf_grammar.specs.declared.reason.Reason.TheVariants.{TooLarge}
@@ -15,7 +15,7 @@ use Rattle.xrf_trace.specs.Runs.{run}
 use Rattle.xrf_trace.specs.Safe.{Safe}
 use Rattle.xrf_report.specs.Document.{doc, ReadsAgain}
 use Rattle.xrf_run.specs.Threaded.{IsThreadedRun}
-use Rattle.xrf.specs.Answer.{End, Refusing, WritesMade}
+use Rattle.xrf.specs.Answer.{Refusing, WritesMade}
 use Rattle.xrf.specs.Live.{IsThreadedDocument, IsThreadedRefusal, IsThreadedMade, IsThreadedText, WritesThreaded, RefusesThreaded, Lived, LivesThrough}
 use Rattle.xrf.specs.Made.{IsDocument}
 use Rattle.xrf.specs.Refusals.{refusal_line}

@@ -1,6 +1,7 @@
 -- At most one document, at most one refusal, and never both.
 use Rattle.std.proofs.Common.{String, ◌≡◌, ◌⊎◌, inl, inr, ℕ, Bool, true, false, List, slice_get, Option, Some, None, IfSome, MatchBool, Result, Ok, Err, refl, sym, ◌∙◌, ap, subst, arith}
 use Rattle.std.specs.Global.{Global}
+use Rattle.xrf_edge.specs.Ends.{End}
 use Rattle.xrf_edge.specs.Faults.{HasRisen}
 use Rattle.xrf_setup.specs.Scenario.{Scen}
 use Rattle.xrf_scenario.specs.declared.numbered.Numbered.{Numbered}
@@ -18,7 +19,7 @@ use Rattle.xrf.specs.Driven.{Driven}
 use Rattle.xrf.specs.Refusals.{IsRefusal}
 use Rattle.xrf.specs.declared.drive_words.Asked.{Asked}
 use Rattle.xrf.specs.declared.refusal.Reason.{Reason}
-use Rattle.xrf.specs.Answer.{End, Said, Replayed, Unread, Answered, Complete, IsOr, OneText, OneRefusal, NeverRefused}
+use Rattle.xrf.specs.Answer.{Said, Replayed, Unread, Answered, Complete, IsOr, OneText, OneRefusal, NeverRefused}
 use Rattle.xrf.specs.declared.refusal.Reason.TheVariants.{Grammar, Choosing}
 use Rattle.xrf.specs.declared.status.Status.{Status}
 use Rattle.xrf.specs.declared.status.Status.TheVariants.{Done, Refused, Usage, ReadFault, WriteFault, NoMemory}

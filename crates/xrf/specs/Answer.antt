@@ -2,9 +2,8 @@
 use Rattle.std.specs.Prelude.{◌≡◌, ◌⊎◌, ℕ, true, false, List, [], Option, Some, None, IfSome, MatchBool, String}
 use Rattle.std.specs.Global.{Global}
 use Rattle.std.specs.Io.KnownBytes.{Appends}
-use Rattle.xrf_edge.specs.Ends.{AppendsPrefix}
+use Rattle.xrf_edge.specs.Ends.{End, AppendsPrefix}
 use Rattle.xrf_edge.specs.Faults.{HasRisen}
-pub use Rattle.xrf.specs.Ends.{End}
 use Rattle.xrf.specs.Words.{is_replay, usage_line}
 use Rattle.xrf.specs.DriveWords.{drive_asked}
 use Rattle.xrf.specs.Driven.{Driven}

@@ -3,7 +3,7 @@ use Rattle.std.specs.Prelude.{◌≡◌, ◌⊎◌, ℕ, ◌≤◌, ◌<◌, Boo
 use Rattle.std.specs.Cmp.Lexicographic.{pointwise}
 use Rattle.std.specs.Global.{Global}
 use Rattle.std.specs.Io.KnownBytes.{Appends}
-use Rattle.xrf_edge.specs.Ends.{AppendsPrefix}
+use Rattle.xrf_edge.specs.Ends.{End, AppendsPrefix}
 use Rattle.xrf_edge.specs.Faults.{HasRisen}
 use Rattle.xrf_exit.specs.declared.ExitAnswer.{ExitAnswer}
 use Rattle.xrf_grammar.specs.declared.reason.Reason.TheVariants.{TooLarge, ChoicesGiven}
@@ -18,7 +18,6 @@ use Rattle.xrf_trace.specs.Safe.{Safe}
 use Rattle.xrf_trace.specs.Promises.{Promises}
 use Rattle.xrf_report.specs.Document.{doc}
 use Rattle.xrf_run.specs.Threaded.{IsThreadedRun}
-use Rattle.xrf.specs.Answer.{End}
 use Rattle.xrf.specs.Made.{IsDocument}
 use Rattle.xrf.specs.Refusals.{refusal_line}
 use Rattle.xrf.specs.declared.made.Made.{Made}

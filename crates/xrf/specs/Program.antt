@@ -1,8 +1,9 @@
 -- What the top call answers: to `run` what a threaded run does, and to other words what the call that never waits does.
 use Rattle.std.specs.Prelude.{List, MatchBool, String}
 use Rattle.std.specs.Global.{Global}
+use Rattle.xrf_edge.specs.Ends.{End}
 use Rattle.xrf_exit.specs.declared.ExitAnswer.{ExitAnswer}
-use Rattle.xrf.specs.Answer.{End, Answered, Complete}
+use Rattle.xrf.specs.Answer.{Answered, Complete}
 use Rattle.xrf.specs.Live.{is_run_word, Lived, LivesThrough}
 use Rattle.xrf.specs.declared.status.Status.{Status}
 

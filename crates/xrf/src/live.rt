@@ -102,7 +102,7 @@ fn answer_run<
 >(rt: &R, alloc: Global, source: &mut S, sink: &mut K, gate: &G, exit: &StatusExit<F>) -> Status
     requires callable { F.IsAlwaysCallable exit.now.closure }
     requires allowed { AnswersAllowed (F.post exit.now.closure) }
-    ensures { Lived (λ said. F.post exit.now.closure AlternateLost said) (record { bytes = S.left source.old; faults = S.faults source.old }) (record { bytes = S.left source.new; faults = S.faults source.new }) (record { bytes = K.held sink.old; faults = K.faults sink.old }) (record { bytes = K.held sink.new; faults = K.faults sink.new }) result }
+    ensures { Lived (λ said. F.post exit.now.closure AlternateLost said) (S.end source.old) (S.end source.new) (K.end sink.old) (K.end sink.new) result }
 {
     match read_all(alloc, source, INPUT_MOST) {
         Ok(text) => write_made(alloc, sink, made_by_threads(rt, alloc, &text, gate, exit)),
@@ -126,8 +126,8 @@ pub fn live_command<
 >(rt: &R, alloc: Global, source: &mut S, sink: &mut K, gate: &G, exit: &StatusExit<F>) -> Status
     requires callable { F.IsAlwaysCallable exit.now.closure }
     requires allowed { AnswersAllowed (F.post exit.now.closure) }
-    ensures lived { Lived (λ said. F.post exit.now.closure AlternateLost said) (record { bytes = S.left source.old; faults = S.faults source.old }) (record { bytes = S.left source.new; faults = S.faults source.new }) (record { bytes = K.held sink.old; faults = K.faults sink.old }) (record { bytes = K.held sink.new; faults = K.faults sink.new }) result }
-    ensures complete { LivesThrough (record { bytes = S.left source.old; faults = S.faults source.old }) (record { bytes = S.left source.new; faults = S.faults source.new }) (record { bytes = K.held sink.old; faults = K.faults sink.old }) (record { bytes = K.held sink.new; faults = K.faults sink.new }) result }
+    ensures lived { Lived (λ said. F.post exit.now.closure AlternateLost said) (S.end source.old) (S.end source.new) (K.end sink.old) (K.end sink.new) result }
+    ensures complete { LivesThrough (S.end source.old) (S.end source.new) (K.end sink.old) (K.end sink.new) result }
 {
     answer_run(rt, alloc, source, sink, gate, exit)
 }

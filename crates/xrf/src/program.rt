@@ -51,8 +51,8 @@ pub fn xrf_top<
 ) -> Status
     requires callable { F.IsAlwaysCallable exit.now.closure }
     requires allowed { AnswersAllowed (F.post exit.now.closure) }
-    ensures answered { TopAnswered (λ said. F.post exit.now.closure AlternateLost said) words.now (record { bytes = S.left source.old; faults = S.faults source.old }) (record { bytes = S.left source.new; faults = S.faults source.new }) (record { bytes = K.held sink.old; faults = K.faults sink.old }) (record { bytes = K.held sink.new; faults = K.faults sink.new }) result }
-    ensures complete { TopComplete words.now (record { bytes = S.left source.old; faults = S.faults source.old }) (record { bytes = S.left source.new; faults = S.faults source.new }) (record { bytes = K.held sink.old; faults = K.faults sink.old }) (record { bytes = K.held sink.new; faults = K.faults sink.new }) result }
+    ensures answered { TopAnswered (λ said. F.post exit.now.closure AlternateLost said) words.now (S.end source.old) (S.end source.new) (K.end sink.old) (K.end sink.new) result }
+    ensures complete { TopComplete words.now (S.end source.old) (S.end source.new) (K.end sink.old) (K.end sink.new) result }
 {
     if asks_run(words) {
         live_command(rt, alloc, source, sink, gate, exit)

@@ -48,9 +48,7 @@ impl MemSource {
 impl Source for MemSource {
     ghost use Rattle.xrf_edge.specs.Memory.{supply_count, after_read};
 
-    ghost left = { λ s. Some s.left };
-
-    ghost faults = { λ s. s.plan.faults };
+    ghost end = { λ s. record { bytes = Some s.left; faults = s.plan.faults } };
 
     fn read(&mut self, into: &mut [u8]) -> Result<usize, Failed>
         ensures failed { IsErr result ↔ NextFails self.old.plan }
@@ -143,9 +141,7 @@ impl MemSink {
 impl Sink for MemSink {
     ghost use Rattle.xrf_edge.specs.Memory.{store_count, after_write, WriteFails};
 
-    ghost held = { λ s. Some s.held };
-
-    ghost faults = { λ s. s.plan.faults };
+    ghost end = { λ s. record { bytes = Some s.held; faults = s.plan.faults } };
 
     fn write(&mut self, from: &[u8]) -> Result<usize, Failed>
         ensures failed { IsErr result ↔ WriteFails self.old from.now }

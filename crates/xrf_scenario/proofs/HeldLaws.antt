@@ -3,7 +3,7 @@ use Rattle.std.proofs.Common.{◌≡◌, ◌+◌, ℕ, true, List, [], ◌∷◌
 use Rattle.std.specs.List.{AllByRecursion}
 use Rattle.xrf_setup.specs.Choices.{HasLine}
 use Rattle.xrf_scenario.specs.Canonical.{AreChoices}
-use Rattle.xrf_scenario.specs.Held.{Gives, IsBad}
+use Rattle.xrf_scenario.specs.Outcomes.{Gives, IsBad}
 use Rattle.xrf_scenario.specs.Machine.{read_on, read_whole, step}
 use Rattle.xrf_scenario.specs.Reading.{Reads}
 use Rattle.xrf_scenario.specs.Said.{IsSaid}

@@ -31,7 +31,7 @@ use Rattle.xrf_setup.specs.Commands.{IsKept}
 use Rattle.xrf_setup.specs.Settings.{AreSettings, AreLevels}
 use Rattle.xrf_scenario.specs.Settled.{by_number, scenario_of, settled}
 use Rattle.xrf_scenario.specs.SoFar.{SoFar, nothing_given, nothing_said, is_whole, file_said}
-use Rattle.xrf_scenario.specs.Taking.{once, with_room, free_record, last_tick, numbered, are_within, take_setting, take}
+use Rattle.xrf_scenario.specs.Taking.{once, with_room, free_record, last_tick, numbered, are_within, has_choice_room, take_setting, take}
 use Rattle.xrf_scenario.specs.declared.given.Given.{Given}
 use Rattle.xrf_scenario.specs.declared.given.Part.{Part}
 use Rattle.xrf_scenario.specs.declared.given.Part.TheVariants.{Start, Settings, Making, Whole}
@@ -59,9 +59,9 @@ line-said format ws (Work site i) is = is
 line-said format ws (Plan tick c) is = is
 line-said format ws Choices is = is
 line-said format ws Clt is = absurd is
-line-said format ws (Once c) is = absurd is
-line-said format ws (Times c count) is = absurd is
-line-said format ws End is = absurd is
+line-said format ws (Once c) is = is
+line-said format ws (Times c count) is = is
+line-said format ws End is = is
 
 pub setting-said : (format : Format) (line : List ℕ) (l : Line) → bytes_fault line ≡ None → line_of (settings_of format) (words line) ≡ Ok l → IsLineSaid format (words line) l
 setting-said format line l plain h = by (setting_found format (words line) l h)
@@ -71,16 +71,6 @@ setting-said format line l plain h = by (setting_found format (words line) l h)
         let clt : line_of (settings_of format) (words line) ≡ Ok Clt = h ∙ ap (λ (k : Line). Ok k) same in
         subst (IsLineSaid format (words line)) (sym same) (clt-fault format (words line) clt, clt-kept format line plain clt)
     by (inr is) = line-said format (words line) l is
-
--- what is known of a line of the choices
-chosen-said : (format : Format) (ws : List (List ℕ)) (l : Line) → IsChoosing l → IsLineSaid format ws l
-chosen-said format ws (Once c) is = is
-chosen-said format ws (Times c count) is = is
-chosen-said format ws End is = is
-chosen-said format ws l is = absurd is
-
-pub choice-said : (format : Format) (line : List ℕ) (l : Line) → line_of choices_table (words line) ≡ Ok l → IsLineSaid format (words line) l
-choice-said format line l h = chosen-said format (words line) l (choosing_found (words line) l h)
 
 empty-places : (n : ℕ) → AllByRecursion (λ (place : Option (List ℕ)). IfSome place IsValue) (replicate n None)
 empty-places zero = tt
@@ -191,7 +181,7 @@ planned-more least (p ∷ next ∷ more) tick c are low last few takes has =
     (are.0, are.1, are.2, planned-more p.0 (next ∷ more) tick c are.3 (λ (e : next ∷ more ≡ []). absurd (cc)) last few takes has)
 
 -- what a line of the scenario adds is kept within its bounds
-clt-taken : (number : ℕ) (so next : SoFar) (ws : List (List ℕ)) → so.part ≡ Settings → IsSaid so → IsKept (words_kept (behind ws)) → take number so ws Clt ≡ Ok next → IsSaid next
+pub clt-taken : (number : ℕ) (so next : SoFar) (ws : List (List ℕ)) → so.part ≡ Settings → IsSaid so → IsKept (words_kept (behind ws)) → take number so ws Clt ≡ Ok next → IsSaid next
 clt-taken number so next ws here said is h =
     let more : SoFar = record so { clt = so.clt ++ words_kept (behind ws) ∷ [] } in
     let room = room-is (nat_lt (length so.clt) 100) more next h in
@@ -199,7 +189,7 @@ clt-taken number so next ws here said is h =
     let longer : length (so.clt ++ words_kept (behind ws) ∷ []) ≡ length so.clt + 1 = length-append so.clt ((words_kept (behind ws)) ∷ []) in
     subst IsSaid room.1 (record { fresh = not-fresh so more here; given = said.given; places = said.places; values = said.values; clt = all-more IsKept so.clt (words_kept (behind ws)) said.clt is; clt_few = omega (arith, longer, few); work_a = said.work_a; work_a_few = said.work_a_few; work_b = said.work_b; work_b_few = said.work_b_few; plan = said.plan; plan_few = said.plan_few; choices = said.choices; choices_few = said.choices_few; within = not-past so.part here })
 
-line-taken : (number : ℕ) (so next : SoFar) (ws : List (List ℕ)) (l : Line) → so.part ≡ Settings → IsSaid so → IsSetting so.format l → take number so ws l ≡ Ok next → IsSaid next
+pub line-taken : (number : ℕ) (so next : SoFar) (ws : List (List ℕ)) (l : Line) → so.part ≡ Settings → IsSaid so → IsSetting so.format l → take number so ws l ≡ Ok next → IsSaid next
 line-taken number so next ws (Record n value) here said is h =
     let more : SoFar = record so { records = slice_set so.records (n - 1) (Some value) } in
     subst IsSaid (free-is (is_none (get_or so.records (n - 1) None)) more next h) (record { fresh = not-fresh so more here; given = said.given; places = length-set so.records (n - 1) (Some value) ∙ said.places; values = all-set (λ (place : Option (List ℕ)). IfSome place IsValue) so.records (n - 1) (Some value) said.values is.1; clt = said.clt; clt_few = said.clt_few; work_a = said.work_a; work_a_few = said.work_a_few; work_b = said.work_b; work_b_few = said.work_b_few; plan = said.plan; plan_few = said.plan_few; choices = said.choices; choices_few = said.choices_few; within = not-past so.part here })
@@ -267,19 +257,18 @@ not-start so next here = subst (λ (p : Part). IsFresh p next) (sym here) tt
 within-past : (so : SoFar) → so.part ≡ Making → IsSaid so → are_within so ≡ true
 within-past so here said = said.within (ap is_past here)
 
-choice-taken : (number : ℕ) (so next : SoFar) (ws : List (List ℕ)) (l : Line) → so.part ≡ Making → IsSaid so → IsChoosing l → take number so ws l ≡ Ok next → IsSaid next
-choice-taken number so next ws (Once c) here said is h =
-    let more : SoFar = record so { choices = so.choices ++ numbered number c ∷ [] } in
-    let room = room-is (nat_le (length so.choices + 1) 8192) more next h in
-    let few : length so.choices + 1 ≤ 8192 = leb-true (length so.choices + 1) 8192 room.0 in
-    let longer : length (so.choices ++ numbered number c ∷ []) ≡ length so.choices + 1 = length-append so.choices ((numbered number c) ∷ []) in
-    subst IsSaid room.1 (record { fresh = not-start so more here; given = said.given; places = said.places; values = said.values; clt = said.clt; clt_few = said.clt_few; work_a = said.work_a; work_a_few = said.work_a_few; work_b = said.work_b; work_b_few = said.work_b_few; plan = said.plan; plan_few = said.plan_few; choices = all-more (λ (k : Numbered). HasLine k.choice) so.choices (numbered number c) said.choices is; choices_few = omega (arith, longer, few); within = λ past. within-past so here said })
-choice-taken number so next ws (Times c count) here said is h =
+pub choices-taken : (number : ℕ) (so next : SoFar) (c : Choice) (count : ℕ) → so.part ≡ Making → IsSaid so → HasLine c
+    → with_room (has_choice_room so count) (record so { choices = so.choices ++ replicate count (numbered number c) }) ≡ Ok next → IsSaid next
+choices-taken number so next c count here said is h =
     let more : SoFar = record so { choices = so.choices ++ replicate count (numbered number c) } in
     let room = room-is (nat_le (length so.choices + count) 8192) more next h in
     let few : length so.choices + count ≤ 8192 = leb-true (length so.choices + count) 8192 room.0 in
     let longer : length (so.choices ++ replicate count (numbered number c)) ≡ length so.choices + count = times-longer so.choices (numbered number c) count in
-    subst IsSaid room.1 (record { fresh = not-start so more here; given = said.given; places = said.places; values = said.values; clt = said.clt; clt_few = said.clt_few; work_a = said.work_a; work_a_few = said.work_a_few; work_b = said.work_b; work_b_few = said.work_b_few; plan = said.plan; plan_few = said.plan_few; choices = all-times (λ (k : Numbered). HasLine k.choice) so.choices (numbered number c) count said.choices (timed-line c is.0); choices_few = omega (arith, longer, few); within = λ past. within-past so here said })
+    subst IsSaid room.1 (record { fresh = not-start so more here; given = said.given; places = said.places; values = said.values; clt = said.clt; clt_few = said.clt_few; work_a = said.work_a; work_a_few = said.work_a_few; work_b = said.work_b; work_b_few = said.work_b_few; plan = said.plan; plan_few = said.plan_few; choices = all-times (λ (k : Numbered). HasLine k.choice) so.choices (numbered number c) count said.choices is; choices_few = omega (arith, longer, few); within = λ past. within-past so here said })
+
+choice-taken : (number : ℕ) (so next : SoFar) (ws : List (List ℕ)) (l : Line) → so.part ≡ Making → IsSaid so → IsChoosing l → take number so ws l ≡ Ok next → IsSaid next
+choice-taken number so next ws (Once c) here said is h = choices-taken number so next c 1 here said is h
+choice-taken number so next ws (Times c count) here said is h = choices-taken number so next c count here said (timed-line c is.0) h
 choice-taken number so next ws End here said is h =
     let same : record so { part = Whole } ≡ next = cc in
     subst IsSaid same (record { fresh = tt; given = said.given; places = said.places; values = said.values; clt = said.clt; clt_few = said.clt_few; work_a = said.work_a; work_a_few = said.work_a_few; work_b = said.work_b; work_b_few = said.work_b_few; plan = said.plan; plan_few = said.plan_few; choices = said.choices; choices_few = said.choices_few; within = λ past. within-past so here said })

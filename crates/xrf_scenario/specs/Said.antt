@@ -4,14 +4,14 @@ use Rattle.std.specs.List.{AllByRecursion}
 use Rattle.xrf_base.specs.Values.{IsValue}
 use Rattle.xrf_base.specs.declared.site.Site.TheVariants.{A, B}
 use Rattle.xrf_clt.specs.Lines.{fault_of, words_kept}
-use Rattle.xrf_grammar.specs.LineText.{IsSetting, IsChoosing}
+use Rattle.xrf_grammar.specs.LineText.{IsSetting}
 use Rattle.xrf_setup.specs.Items.{IsItemOf}
 use Rattle.xrf_grammar.specs.Places.{behind}
 use Rattle.xrf_setup.specs.Choices.{HasLine}
 use Rattle.xrf_setup.specs.declared.format.Format.{Format}
 use Rattle.xrf_setup.specs.declared.ranges.TheConstants.{FILE_MOST, CLT_MOST, ITEMS_MOST, PLAN_MOST, CHOICES_MOST}
 use Rattle.xrf_grammar.specs.declared.line.Line.{Line}
-use Rattle.xrf_grammar.specs.declared.line.Line.TheVariants.{Applid, Adi, Pdi, Log, Ring, File, Pace, Ticks, Level, Xrfsoff, Clt, Once, Times, End}
+use Rattle.xrf_grammar.specs.declared.line.Line.TheVariants.{Applid, Adi, Pdi, Log, Ring, File, Pace, Ticks, Level, Xrfsoff, Clt}
 use Rattle.xrf_setup.specs.Scenario.{ArePlanned}
 use Rattle.xrf_setup.specs.Commands.{IsKept}
 use Rattle.xrf_scenario.specs.SoFar.{SoFar, nothing_given}
@@ -21,12 +21,9 @@ use Rattle.xrf_scenario.specs.declared.given.Part.{Part}
 use Rattle.xrf_scenario.specs.declared.given.Part.TheVariants.{Start, Making, Whole}
 use Rattle.xrf_scenario.specs.declared.numbered.Numbered.{Numbered}
 
--- what is known of a line that some words spell
+-- what is known of a line before the choices that some words spell
 abbrev pub IsLineSaid : Format → List (List ℕ) → Line → Type 0
 IsLineSaid format ws Clt = (fault_of (behind ws) ≡ None) × IsKept (words_kept (behind ws))
-IsLineSaid format ws (Once choice) = IsChoosing (Once choice)
-IsLineSaid format ws (Times choice count) = IsChoosing (Times choice count)
-IsLineSaid format ws End = IsChoosing End
 IsLineSaid format ws line = IsSetting format line
 
 -- CHOICES has come

@@ -7,12 +7,13 @@ use crate::given::{Given, Part};
 use crate::last_choice::LastChoice;
 use crate::numbered::Numbered;
 use std::alloc::{AllocError, Global};
+use std::marker::Model;
 use xrf_base::{Item, Tick, Value};
 use xrf_clt::Clt;
 use xrf_setup::ranges::FILE_MOST;
 use xrf_setup::{Choice, Format};
 
-/// What the lines so far say.
+/// A text that is being read, seen by contracts as what its lines so far say.
 #[derive(Drop)]
 pub struct Reading<'a> {
     /// The part of the text that the next line is of.
@@ -28,6 +29,19 @@ pub struct Reading<'a> {
     pub choices: Vec<Numbered>,
     /// The last of the lines that say a choice once.
     pub last_choice: LastChoice<'a>,
+}
+
+impl<'a> Model for Reading<'a> {
+    ghost use Rattle.xrf_scenario.specs.SoFar.{SoFar};
+
+    ghost Value = { SoFar };
+
+    ghost use Rattle.xrf_scenario.specs.Held.{held};
+    ghost use Rattle.xrf_scenario.specs.Said.{IsSaid};
+
+    ghost view = { held };
+
+    ghost invariant = { λ r. IsSaid (held r) };
 }
 
 const NOTHING_GIVEN: Given = Given {
@@ -51,19 +65,17 @@ const NOTHING_GIVEN: Given = Given {
 fn empty_places(alloc: Global) -> Result<Vec<Option<Value>>, AllocError>
     ensures { IfOk result (λ places. places.items ≡ replicate FILE_MOST None) }
 {
-    let mut places = Vec::new(alloc);
+    let mut places = Vec::with_capacity(alloc, FILE_MOST as usize)?;
     for count in 0..FILE_MOST {
-        places.push(None)?;
+        places.push_reserved(None);
     }
     Ok(places)
 }
 
 impl<'a> Reading<'a> {
-    ghost use Rattle.xrf_scenario.specs.Held.{said};
-
     /// A reading of no line.
     pub fn new(alloc: Global) -> Result<Reading<'a>, AllocError>
-        ensures { IfOk result (λ r. said r ≡ nothing_said) }
+        ensures { IfOk result (λ r. r ≡ nothing_said) }
     {
         Ok(Reading {
             part: Part::Start,

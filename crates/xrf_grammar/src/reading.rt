@@ -11,7 +11,7 @@ use crate::form::Form;
 use crate::line::Line;
 use crate::reason::Reason;
 use crate::saying::say;
-use crate::spelled::{choice_by_first_word, setting_by_first_word};
+use crate::spelled::{choice_by_first_word, setting_by_words};
 use crate::table::{choices, settings};
 use crate::word::{first_word, front_words, second_word};
 use xrf_setup::Format;
@@ -38,7 +38,7 @@ pub fn read_setting(format: Format, line: &[u8]) -> Result<Line, Reason>
     ensures none { IfErr result (λ reason. AreOfNone (settings_of format) (words line.now)) }
     ensures exact { result ≡ line_of (settings_of format) (words line.now) }
 {
-    match setting_by_first_word(format, line) {
+    match setting_by_words(format, line) {
         Some(says) => Ok(says),
         None => read_by_form(settings(format), line),
     }

@@ -10,6 +10,7 @@ mod lines;
 mod numbered;
 mod read_bad;
 mod reading;
+mod section;
 mod setting;
 mod settled;
 mod stepping;

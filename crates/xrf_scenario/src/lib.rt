@@ -26,6 +26,8 @@ pub use xrf_grammar::Reason;
 pub use xrf_setup::{Choice, Format, Landing, Scenario, Settings, TornBytes};
 
 #[cfg(test)]
+mod line_rows;
+#[cfg(test)]
 mod line_tests;
 #[cfg(test)]
 mod tests;

@@ -56,7 +56,7 @@ pub record HasChoice (bytes : List ℕ) (number : ℕ) : Type 0 where
   pub reads : Reads bytes scenario (first ∷ others)
   pub line : number ≡ first.line
 
--- The input is refused at a line for a reason: it is too large, which is said at line 0; or else its grammar is bad first
+-- The input is refused at a line for a reason: it is too large, which is answered at line 0; or else its grammar is bad first
 -- there; or else its first choice stands there.
 abbrev pub IsThreadedRefusal : List ℕ → ℕ → Reason → Type 0
 IsThreadedRefusal bytes number (Grammar reason) =

@@ -7,7 +7,7 @@ use Rattle.xrf.specs.Answer.{Answered, Complete}
 use Rattle.xrf.specs.Live.{is_run_word, Lived, LivesThrough}
 use Rattle.xrf.specs.declared.status.Status.{Status}
 
--- The answer of the top call, over the ends before and after it. What the exit may answer is said for `run`.
+-- The answer of the top call, over the ends before and after it. What the exit may answer counts for `run` alone.
 abbrev pub TopAnswered : (may : ExitAnswer → Type 0) → List (String Global) → End → End → End → End → Status → Type 0
 TopAnswered may words source source' sink sink' status = MatchBool (is_run_word words) (Lived may source source' sink sink' status) (Answered words source source' sink sink' status)
 

@@ -5,7 +5,7 @@ ghost use Rattle.xrf.specs.Driven.{Driven, IsSummary};
 
 use crate::drive_words::Asked;
 use crate::status::Status;
-use crate::top::say;
+use crate::top::write_text;
 use std::alloc::{AllocError, Global};
 use xrf_edge::Sink;
 use xrf_report::summary;
@@ -25,7 +25,7 @@ pub fn drive<K: Sink>(alloc: Global, asked: Asked, sink: &mut K) -> Status
     ensures { Driven asked (K.end sink.old) (K.end sink.new) result }
 {
     match summary_of(alloc, asked) {
-        Ok(text) => say(sink, &text, Status::Done),
+        Ok(text) => write_text(sink, &text, Status::Done),
         Err(_) => Status::NoMemory,
     }
 }

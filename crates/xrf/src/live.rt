@@ -30,7 +30,7 @@ fn lived<R: Threads + Wait + Sync, G: Gate + Sync, F: Fn(Notice) -> ExitAnswer +
 ) -> Result<Made, AllocError>
     requires callable { F.IsAlwaysCallable exit.now.closure }
     requires allowed { AnswersAllowed (F.post exit.now.closure) }
-    ensures { (bytes : List ℕ) → length bytes ≤ INPUT_MOST → Reads bytes scenario.now [] → IfOk result (IsThreadedMade (λ said. F.post exit.now.closure AlternateLost said) bytes) }
+    ensures { (bytes : List ℕ) → length bytes ≤ INPUT_MOST → Reads bytes scenario.now [] → IfOk result (IsThreadedMade (λ answer. F.post exit.now.closure AlternateLost answer) bytes) }
 {
     let (world, choices) = live(rt, alloc, scenario, gate, exit)?;
     Ok(Made::Document(document(alloc, scenario, &choices, &world)?))
@@ -47,7 +47,7 @@ fn made_of_read<R: Threads + Wait + Sync, G: Gate + Sync, F: Fn(Notice) -> ExitA
 ) -> Result<Made, AllocError>
     requires callable { F.IsAlwaysCallable exit.now.closure }
     requires allowed { AnswersAllowed (F.post exit.now.closure) }
-    ensures { (bytes : List ℕ) → length bytes ≤ INPUT_MOST → Reads bytes scenario.now numbered.now → IfOk result (IsThreadedMade (λ said. F.post exit.now.closure AlternateLost said) bytes) }
+    ensures { (bytes : List ℕ) → length bytes ≤ INPUT_MOST → Reads bytes scenario.now numbered.now → IfOk result (IsThreadedMade (λ answer. F.post exit.now.closure AlternateLost answer) bytes) }
 {
     match numbered {
         [] => lived(rt, alloc, scenario, gate, exit),
@@ -65,7 +65,7 @@ fn made_of_text<R: Threads + Wait + Sync, G: Gate + Sync, F: Fn(Notice) -> ExitA
     requires size { length text.now ≤ INPUT_MOST }
     requires callable { F.IsAlwaysCallable exit.now.closure }
     requires allowed { AnswersAllowed (F.post exit.now.closure) }
-    ensures { IfOk result (IsThreadedMade (λ said. F.post exit.now.closure AlternateLost said) text.now) }
+    ensures { IfOk result (IsThreadedMade (λ answer. F.post exit.now.closure AlternateLost answer) text.now) }
 {
     match read(alloc, text) {
         Ok((scenario, numbered)) => made_of_read(rt, alloc, &scenario, &numbered, gate, exit),
@@ -85,7 +85,7 @@ fn made_by_threads<R: Threads + Wait + Sync, G: Gate + Sync, F: Fn(Notice) -> Ex
     requires size { length text.now ≤ INPUT_MOST }
     requires callable { F.IsAlwaysCallable exit.now.closure }
     requires allowed { AnswersAllowed (F.post exit.now.closure) }
-    ensures { IsThreadedMade (λ said. F.post exit.now.closure AlternateLost said) text.now result }
+    ensures { IsThreadedMade (λ answer. F.post exit.now.closure AlternateLost answer) text.now result }
 {
     match made_of_text(rt, alloc, text, gate, exit) {
         Ok(made) => made,
@@ -102,7 +102,7 @@ fn answer_run<
 >(rt: &R, alloc: Global, source: &mut S, sink: &mut K, gate: &G, exit: &StatusExit<F>) -> Status
     requires callable { F.IsAlwaysCallable exit.now.closure }
     requires allowed { AnswersAllowed (F.post exit.now.closure) }
-    ensures { Lived (λ said. F.post exit.now.closure AlternateLost said) (S.end source.old) (S.end source.new) (K.end sink.old) (K.end sink.new) result }
+    ensures { Lived (λ answer. F.post exit.now.closure AlternateLost answer) (S.end source.old) (S.end source.new) (K.end sink.old) (K.end sink.new) result }
 {
     match read_all(alloc, source, INPUT_MOST) {
         Ok(text) => write_made(alloc, sink, made_by_threads(rt, alloc, &text, gate, exit)),
@@ -126,7 +126,7 @@ pub fn live_command<
 >(rt: &R, alloc: Global, source: &mut S, sink: &mut K, gate: &G, exit: &StatusExit<F>) -> Status
     requires callable { F.IsAlwaysCallable exit.now.closure }
     requires allowed { AnswersAllowed (F.post exit.now.closure) }
-    ensures lived { Lived (λ said. F.post exit.now.closure AlternateLost said) (S.end source.old) (S.end source.new) (K.end sink.old) (K.end sink.new) result }
+    ensures lived { Lived (λ answer. F.post exit.now.closure AlternateLost answer) (S.end source.old) (S.end source.new) (K.end sink.old) (K.end sink.new) result }
     ensures complete { LivesThrough (S.end source.old) (S.end source.new) (K.end sink.old) (K.end sink.new) result }
 {
     answer_run(rt, alloc, source, sink, gate, exit)

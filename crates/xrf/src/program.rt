@@ -51,7 +51,7 @@ pub fn xrf_top<
 ) -> Status
     requires callable { F.IsAlwaysCallable exit.now.closure }
     requires allowed { AnswersAllowed (F.post exit.now.closure) }
-    ensures answered { TopAnswered (λ said. F.post exit.now.closure AlternateLost said) words.now (S.end source.old) (S.end source.new) (K.end sink.old) (K.end sink.new) result }
+    ensures answered { TopAnswered (λ answer. F.post exit.now.closure AlternateLost answer) words.now (S.end source.old) (S.end source.new) (K.end sink.old) (K.end sink.new) result }
     ensures complete { TopComplete words.now (S.end source.old) (S.end source.new) (K.end sink.old) (K.end sink.new) result }
 {
     if asks_run(words) {

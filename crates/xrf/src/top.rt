@@ -3,7 +3,7 @@
 ghost use Rattle.std.specs.Prelude.{◌≡◌, ◌≤◌, false, true, nat_eq, string_bytes, codes};
 ghost use Rattle.std.specs.Cmp.Lexicographic.{pointwise};
 ghost use Rattle.xrf.specs.Words.{is_replay, usage_line};
-ghost use Rattle.xrf.specs.Answer.{Answered, Said, Refusing, WritesMade, Replayed, Complete, HasAnswer, OneText, OneRefusal, NeverRefused};
+ghost use Rattle.xrf.specs.Answer.{Answered, WritesText, Refusing, WritesMade, Replayed, Complete, HasAnswer, OneText, OneRefusal, NeverRefused};
 
 use crate::drive_words::drive_asked;
 use crate::driven::drive;
@@ -33,8 +33,8 @@ fn asks_replay(words: &[String]) -> bool
 }
 
 // writes a text, and answers a status where it is written whole
-pub(crate) fn say<K: Sink>(sink: &mut K, text: &[u8], status: Status) -> Status
-    ensures { Said (K.end sink.old) (K.end sink.new) text.now status result }
+pub(crate) fn write_text<K: Sink>(sink: &mut K, text: &[u8], status: Status) -> Status
+    ensures { WritesText (K.end sink.old) (K.end sink.new) text.now status result }
 {
     match write_all(sink, text) {
         Ok(()) => status,
@@ -46,7 +46,7 @@ pub(crate) fn refuse<K: Sink>(alloc: Global, sink: &mut K, number: u32, reason: 
     ensures { Refusing (K.end sink.old) (K.end sink.new) number reason result }
 {
     match refusal_text(alloc, number, reason) {
-        Ok(text) => say(sink, &text, Status::Refused),
+        Ok(text) => write_text(sink, &text, Status::Refused),
         Err(_) => Status::NoMemory,
     }
 }
@@ -55,7 +55,7 @@ pub(crate) fn write_made<K: Sink>(alloc: Global, sink: &mut K, made: Made) -> St
     ensures { WritesMade (K.end sink.old) (K.end sink.new) made result }
 {
     match made {
-        Made::Document(text) => say(sink, &text, Status::Done),
+        Made::Document(text) => write_text(sink, &text, Status::Done),
         Made::Refusal(number, reason) => refuse(alloc, sink, number, reason),
         Made::NoMemory => Status::NoMemory,
     }
@@ -85,7 +85,7 @@ fn answer<S: Source, K: Sink>(
     }
     match drive_asked(words) {
         Some(asked) => drive(alloc, asked, sink),
-        None => say(sink, USAGE, Status::Usage),
+        None => write_text(sink, USAGE, Status::Usage),
     }
 }
 

@@ -13,7 +13,7 @@ use Rattle.xrf_scenario.specs.Outcomes.{Takes}
 use Rattle.xrf_scenario.specs.Said.{IsLineSaid, IsSaid}
 use Rattle.xrf_scenario.specs.SoFar.{SoFar}
 use Rattle.xrf_scenario.specs.Taking.{take, take_setting, with_room, has_choice_room, numbered}
-use Rattle.xrf_scenario.specs.declared.given.Part.TheVariants.{Settings, Making}
+use Rattle.xrf_scenario.specs.declared.section.Section.TheVariants.{Settings, Making}
 use Rattle.xrf_scenario.specs.declared.numbered.Numbered.{Numbered}
 use Rattle.xrf_scenario.specs.declared.stop.Stop.{Stop}
 use Rattle.xrf_scenario.specs.declared.stop.Stop.TheVariants.{Fault, NoMemory}
@@ -26,14 +26,14 @@ stays (Err (Fault reason)) so new made takes said within = subst IsSaid (sym tak
 stays (Err NoMemory) so new made takes said within = subst IsSaid (sym takes) said
 
 -- a line before the choices
-pub setting-stays : {T : Type 0} (result : Result T Stop) (was so new : SoFar) (ws : List (List ℕ)) (line l : Line) → so ≡ was → line ≡ l → was.part ≡ Settings → IsLineSaid was.format ws line → IsSaid so
+pub setting-stays : {T : Type 0} (result : Result T Stop) (was so new : SoFar) (ws : List (List ℕ)) (line l : Line) → so ≡ was → line ≡ l → was.section ≡ Settings → IsLineSaid was.format ws line → IsSaid so
     → Takes result so new (take 0 so ws l) → IsSaid new
-setting-stays result was so new ws line l same is part known said takes =
-    let here : so.part ≡ Settings = ap (λ (s : SoFar). s.part) same ∙ part in
+setting-stays result was so new ws line l same is section known said takes =
+    let here : so.section ≡ Settings = ap (λ (s : SoFar). s.section) same ∙ section in
     let spelled : IsLineSaid so.format ws l = subst (IsLineSaid so.format ws) is (subst (λ (s : SoFar). IsLineSaid s.format ws line) (sym same) known) in
     stays result so new (take 0 so ws l) takes said (λ next h. by here l spelled next h)
   where
-    by : so.part ≡ Settings → (l : Line) → IsLineSaid so.format ws l → (next : SoFar) → take 0 so ws l ≡ Ok next → IsSaid next
+    by : so.section ≡ Settings → (l : Line) → IsLineSaid so.format ws l → (next : SoFar) → take 0 so ws l ≡ Ok next → IsSaid next
     by here Clt known next h = clt-taken 0 so next ws here said known.1 h
     by here l known next h = line-taken 0 so next ws l here said known h
 
@@ -51,10 +51,10 @@ as-setting number so format ws End known rec clt work plan choices = absurd know
 as-setting number so format ws l known rec clt work plan choices = refl
 
 -- a choice of a line, so many times, where there is room
-pub choices-stay : (was so : SoFar) (choices : List Numbered) (number : ℕ) (c : Choice) (count : ℕ) → so ≡ was → was.part ≡ Making → HasLine c → IsSaid so
+pub choices-stay : (was so : SoFar) (choices : List Numbered) (number : ℕ) (c : Choice) (count : ℕ) → so ≡ was → was.section ≡ Making → HasLine c → IsSaid so
     → choices ≡ so.choices ++ replicate count (numbered number c) → length so.choices + count ≤ 8192 → IsSaid (record so { choices = choices })
-choices-stay was so choices number c count same part is said more room =
-    let here : so.part ≡ Making = ap (λ (s : SoFar). s.part) same ∙ part in
+choices-stay was so choices number c count same section is said more room =
+    let here : so.section ≡ Making = ap (λ (s : SoFar). s.section) same ∙ section in
     let next : SoFar = record so { choices = so.choices ++ replicate count (numbered number c) } in
     let fits : with_room (has_choice_room so count) next ≡ Ok next = ap (λ (b : Bool). with_room b next) (le-leb (length so.choices + count) 8192 room) in
     subst (λ (cs : List Numbered). IsSaid (record so { choices = cs })) (sym more) (choices-taken number so next c count here said is fits)

@@ -3,9 +3,10 @@
 ghost use Rattle.std.specs.Prelude.{◌≡◌, IfOk, None, replicate};
 ghost use Rattle.xrf_scenario.specs.SoFar.{nothing_said, nothing_given};
 
-use crate::given::{Given, Part};
+use crate::given::Given;
 use crate::last_choice::LastChoice;
 use crate::numbered::Numbered;
+use crate::section::Section;
 use std::alloc::{AllocError, Global};
 use std::marker::Model;
 use xrf_base::{Item, Tick, Value};
@@ -16,8 +17,8 @@ use xrf_setup::{Choice, Format};
 /// A text that is being read, seen by contracts as what its lines so far say.
 #[derive(Drop)]
 pub struct Reading<'a> {
-    /// The part of the text that the next line is of.
-    pub part: Part,
+    /// The section of the text that the next line is of.
+    pub section: Section,
     pub format: Format,
     pub given: Given,
     /// A place for each record there may be: record n stands at n - 1.
@@ -78,7 +79,7 @@ impl<'a> Reading<'a> {
         ensures { IfOk result (λ r. r ≡ nothing_said) }
     {
         Ok(Reading {
-            part: Part::Start,
+            section: Section::Start,
             format: Format::One,
             given: NOTHING_GIVEN,
             records: empty_places(alloc)?,

@@ -11,15 +11,15 @@ ghost use Rattle.xrf_scenario.specs.Outcomes.{Takes};
 ghost use Rattle.xrf_scenario.specs.Said.{IsLineSaid};
 ghost use Rattle.xrf_scenario.specs.SoFar.{SoFar};
 ghost use Rattle.xrf_scenario.specs.Taking.{take, with_room, free_record, has_choice_room, last_tick, numbered};
-ghost use Rattle.xrf_scenario.specs.declared.given.Part.{Part};
-ghost use Rattle.xrf_scenario.specs.declared.given.Part.TheVariants.{Settings, Making};
+ghost use Rattle.xrf_scenario.specs.declared.section.Section.{Section};
+ghost use Rattle.xrf_scenario.specs.declared.section.Section.TheVariants.{Settings, Making};
 ghost use Rattle.xrf_setup.specs.Choices.{HasLine};
 ghost use Rattle.xrf_setup.specs.declared.choice.Choice.{Choice};
 ghost use Rattle.xrf_text.specs.Text.{words};
 
-use crate::given::Part;
 use crate::numbered::Numbered;
 use crate::reading::Reading;
+use crate::section::Section;
 use crate::stop::Stop;
 use std::alloc::{AllocError, Global};
 use xrf_base::{Site, Tick, Value};
@@ -135,21 +135,21 @@ fn take_plan(plan: &mut Vec<(Tick, Choice)>, tick: u16, choice: Choice) -> Resul
 }
 
 // the choices begin where no record has a number above FILE
-fn begin_choices(part: &mut Part, records: &[Option<Value>], file: u16) -> Result<(), Stop>
+fn begin_choices(section: &mut Section, records: &[Option<Value>], file: u16) -> Result<(), Stop>
     requires { file ≤ length records.now }
-    ensures { (put : Part → SoFar) → Takes result (put part.old) (put part.new) (if list_all is_none (drop file records.now) then Ok (put Making) else Err RrnRange) }
+    ensures { (put : Section → SoFar) → Takes result (put section.old) (put section.new) (if list_all is_none (drop file records.now) then Ok (put Making) else Err RrnRange) }
 {
     if !within(records, file) {
         return Err(Stop::Fault(Reason::RrnRange));
     }
-    *part = Part::Making;
+    *section = Section::Making;
     Ok(())
 }
 
 impl<'a> Reading<'a> {
     /// Takes what a line before the choices says.
     pub fn take_setting(&mut self, alloc: Global, text: &[u8], line: &Line) -> Result<(), Stop>
-        requires part { self.old.part ≡ Settings }
+        requires section { self.old.section ≡ Settings }
         requires line { IsLineSaid self.old.format (words text.now) line.now }
         ensures { (number : ℕ) → Takes result self.old self.new (take number self.old (words text.now) line.now) }
     {
@@ -163,7 +163,7 @@ impl<'a> Reading<'a> {
             Line::Plan(tick, choice) => take_plan(&mut self.plan, *tick, *choice),
             Line::Choices => {
                 let file = self.given.file_or_default();
-                begin_choices(&mut self.part, &self.records, file)
+                begin_choices(&mut self.section, &self.records, file)
             }
             _ => self.given.take(line),
         }
@@ -171,7 +171,7 @@ impl<'a> Reading<'a> {
 
     /// Takes a choice of the line with this number, so many times.
     pub fn take_choice(&mut self, line: u32, choice: Choice, count: u16) -> Result<(), Stop>
-        requires part { self.old.part ≡ Making }
+        requires section { self.old.section ≡ Making }
         requires choice { HasLine choice }
         ensures { Takes result self.old self.new (with_room (has_choice_room self.old count) (record self.old { choices = self.old.choices ++ replicate count (numbered line choice) })) }
     {
@@ -184,7 +184,7 @@ impl<'a> Reading<'a> {
 
     /// Takes what a line of the choices with this number says.
     pub fn take_choosing(&mut self, number: u32, line: &Line) -> Result<(), Stop>
-        requires part { self.old.part ≡ Making }
+        requires section { self.old.section ≡ Making }
         requires line { IsChoosing line.now }
         ensures { (ws : List (List ℕ)) → Takes result self.old self.new (take number self.old ws line.now) }
     {
@@ -192,7 +192,7 @@ impl<'a> Reading<'a> {
             Line::Once(choice) => self.take_choice(number, *choice, 1),
             Line::Times(choice, count) => self.take_choice(number, *choice, *count),
             Line::End => {
-                self.part = Part::Whole;
+                self.section = Section::Whole;
                 Ok(())
             }
             _ => unreachable!(),

@@ -11,7 +11,7 @@ use Rattle.xrf.proofs.live.answer_run.Goals as goal
 
 pub returns-in-Ok : goal.returns-in-Ok
 returns-in-Ok g c =
-    let may : ExitAnswer → Type 0 = λ said. g.F.Fn.post c.args.exit.now.closure (AlternateLost, tt) said in
+    let may : ExitAnswer → Type 0 = λ answer. g.F.Fn.post c.args.exit.now.closure (AlternateLost, tt) answer in
     let source = g.S.Source.end c.args.source.now in
     let source' = g.S.Source.end c.read_all.new.source in
     let sink = g.K.Sink.end c.args.sink.now in
@@ -21,7 +21,7 @@ returns-in-Ok g c =
 
 pub returns-in-Err-TooLarge : goal.returns-in-Err-TooLarge
 returns-in-Err-TooLarge g c =
-    let may : ExitAnswer → Type 0 = λ said. g.F.Fn.post c.args.exit.now.closure (AlternateLost, tt) said in
+    let may : ExitAnswer → Type 0 = λ answer. g.F.Fn.post c.args.exit.now.closure (AlternateLost, tt) answer in
     let source = g.S.Source.end c.args.source.now in
     let source' = g.S.Source.end c.read_all.new.source in
     let sink = g.K.Sink.end c.args.sink.now in

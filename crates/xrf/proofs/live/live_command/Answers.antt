@@ -5,7 +5,7 @@ use Rattle.xrf.proofs.live.live_command.Goals as goal
 
 pub returns-clause-complete : goal.returns-clause-complete
 returns-clause-complete g c =
-    let may : ExitAnswer → Type 0 = λ said. g.F.Fn.post c.args.exit.now.closure (AlternateLost, tt) said in
+    let may : ExitAnswer → Type 0 = λ answer. g.F.Fn.post c.args.exit.now.closure (AlternateLost, tt) answer in
     let source = g.S.Source.end c.args.source.now in
     let source' = g.S.Source.end c.answer_run.new.source in
     let sink = g.K.Sink.end c.args.sink.now in

@@ -7,7 +7,7 @@ use Rattle.xrf_scenario.proofs.text.parts.Goals as goal
 pub new-scenario-requires : goal.new-scenario-requires
 new-scenario-requires c =
     scenario-held (held c.reading.inside) c.settled-settings.result c.in_ok-records.records.items c.deref.result.now c.settled-settings.ensures c.in_ok-records.ensures c.deref.ensures.value
-    c.reading.invariant (ap (λ (so : SoFar). is_whole so.part) c.reading.view_is ∙ c.requires)
+    c.reading.invariant (ap (λ (so : SoFar). is_whole so.section) c.reading.view_is ∙ c.requires)
 
 pub returns-clause-lines : goal.returns-clause-lines
 returns-clause-lines c = choices-held (held c.reading.inside) c.reading.inside.choices.items refl c.reading.invariant

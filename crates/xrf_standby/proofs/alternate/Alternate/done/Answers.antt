@@ -1,6 +1,6 @@
 use Rattle.std.proofs.Common.{◌∙◌, refl, sym}
 use Rattle.xrf_standby.proofs.Acts.{no-stage}
-use Rattle.xrf_standby.proofs.standby.Standby.done.Goals as goal
+use Rattle.xrf_standby.proofs.alternate.Alternate.done.Goals as goal
 
 pub returns-in-MsgClose-clause-stands : goal.returns-in-MsgClose-clause-stands
 returns-in-MsgClose-clause-stands c = λ h s alt plain. absurd (no-stage c.args.self.now.settings h _ _ (sym c.stage.ensures ∙ c.in-MsgClose.is) s.shared.stage s.was refl)

@@ -5,7 +5,7 @@ use Rattle.xrf_history.specs.Taking.{expected}
 use Rattle.xrf_active.proofs.Alternates.{not_restarted}
 use Rattle.xrf_active.proofs.Draining.{table-read}
 use Rattle.xrf_standby.proofs.Reading.{reads-none, reads-some}
-use Rattle.xrf_standby.proofs.standby.Standby.slot_read.Goals as goal
+use Rattle.xrf_standby.proofs.alternate.Alternate.slot_read.Goals as goal
 
 pub returns-then-not-message_read-clause-stands : goal.returns-then-not-message_read-clause-stands
 returns-then-not-message_read-clause-stands c = λ h place s alt.

@@ -2,7 +2,7 @@ use Rattle.std.proofs.Common.{◌∙◌, ap, refl}
 use Rattle.xrf_log.specs.Scan.{Scanned, cleared}
 use Rattle.xrf_file.specs.Ledger.{Ledger}
 use Rattle.xrf_standby.proofs.Starting.{started}
-use Rattle.xrf_standby.proofs.standby.Standby.start.Goals as goal
+use Rattle.xrf_standby.proofs.alternate.Alternate.start.Goals as goal
 
 pub returns-clause-stands : goal.returns-clause-stands
 returns-clause-stands c = record {

@@ -3,7 +3,7 @@ use Rattle.xrf_history.specs.declared.want.Want.{Want}
 use Rattle.xrf_history.specs.Accepting.{accepts}
 use Rattle.xrf_history.specs.Answers.{fits}
 use Rattle.xrf_history.specs.Next.{next}
-use Rattle.xrf_standby.proofs.tests.may_take.Goals as goal
+use Rattle.xrf_standby.proofs.harness.may_take.Goals as goal
 
 or-true : (a b : Bool) → b ≡ true → (a || b) ≡ true
 or-true true b is = refl

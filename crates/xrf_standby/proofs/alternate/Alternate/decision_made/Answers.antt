@@ -1,8 +1,8 @@
 use Rattle.std.proofs.Common.{◌∷◌, subst}
 use Rattle.xrf_cavm.specs.declared.decisions.Decided.{Decided}
 use Rattle.xrf_history.specs.Events.{DecisionMade}
-use Rattle.xrf_standby.specs.Standing.{Stands}
-use Rattle.xrf_standby.proofs.standby.Standby.decision_made.Goals as goal
+use Rattle.xrf_standby.specs.Alternate.{Stands}
+use Rattle.xrf_standby.proofs.alternate.Alternate.decision_made.Goals as goal
 
 pub returns-clause-stands : goal.returns-clause-stands
 returns-clause-stands c = λ h s alt.

@@ -1,7 +1,7 @@
 use Rattle.std.proofs.Common.{sym, ap}
 use Rattle.xrf_history.specs.Notices.{number_or_none}
 use Rattle.xrf_active.proofs.Alternates.{no_epoch}
-use Rattle.xrf_standby.proofs.standby.Standby.control_read.Goals as goal
+use Rattle.xrf_standby.proofs.alternate.Alternate.control_read.Goals as goal
 
 pub returns-clause-stands : goal.returns-clause-stands
 returns-clause-stands c = λ h s alt. record {

@@ -105,31 +105,35 @@ beside-place place s t e x is own stands =
     }
 
 -- WHAT A CHOICE OF A SITE makes of the pair.
-pub of-a : (old : Pair) (t : List Entry) (c : Choice) (r : Result Entry Refused) (middle : Middle) (place : Place) → Stands old t → Goes old.middle.scenario t
+pub of-a : (old : Pair) (t : List Entry) (c : Choice) (r : Result (Unit {0}) Refused) (middle : Middle) (place : Place) → Stands old t → Goes old.middle.scenario t
     → MakesAt old.middle old.a t site.A c r middle place → Makes old t c r (record { middle = middle; a = place; b = old.b })
-of-a old t c (Ok e) middle place stands g made =
-    let is : IsRun old.middle.scenario (e ∷ t) = (g.run, (c, made.0)) in (
-      made.0,
-      made.2,
+of-a old t c (Ok done) middle place stands g made =
+    let e : Entry = made.0 in
+    let is : IsRun old.middle.scenario (e ∷ t) = (g.run, (c, made.1)) in (
+      e,
+      made.1,
+      made.3,
       record {
-        middle = made.3.middle;
-        a = made.3.place;
-        b = subst (λ (s : Scen). PlaceIs old.b s (e ∷ t) site.B) (sym made.2) (beside-place old.b old.middle.scenario t e site.A is made.1 stands.b);
+        middle = made.4.middle;
+        a = made.4.place;
+        b = subst (λ (s : Scen). PlaceIs old.b s (e ∷ t) site.B) (sym made.3) (beside-place old.b old.middle.scenario t e site.A is made.2 stands.b);
       },
     )
 of-a old t c (Err why) middle place stands g made =
     (made.0, ap (λ (m : Middle). record { middle = m; a = place; b = old.b }) made.1 ∙ ap (λ (p : Place). record { middle = old.middle; a = p; b = old.b }) made.2)
 
-pub of-b : (old : Pair) (t : List Entry) (c : Choice) (r : Result Entry Refused) (middle : Middle) (place : Place) → Stands old t → Goes old.middle.scenario t
+pub of-b : (old : Pair) (t : List Entry) (c : Choice) (r : Result (Unit {0}) Refused) (middle : Middle) (place : Place) → Stands old t → Goes old.middle.scenario t
     → MakesAt old.middle old.b t site.B c r middle place → Makes old t c r (record { middle = middle; a = old.a; b = place })
-of-b old t c (Ok e) middle place stands g made =
-    let is : IsRun old.middle.scenario (e ∷ t) = (g.run, (c, made.0)) in (
-      made.0,
-      made.2,
+of-b old t c (Ok done) middle place stands g made =
+    let e : Entry = made.0 in
+    let is : IsRun old.middle.scenario (e ∷ t) = (g.run, (c, made.1)) in (
+      e,
+      made.1,
+      made.3,
       record {
-        middle = made.3.middle;
-        a = subst (λ (s : Scen). PlaceIs old.a s (e ∷ t) site.A) (sym made.2) (beside-place old.a old.middle.scenario t e site.B is made.1 stands.a);
-        b = made.3.place;
+        middle = made.4.middle;
+        a = subst (λ (s : Scen). PlaceIs old.a s (e ∷ t) site.A) (sym made.3) (beside-place old.a old.middle.scenario t e site.B is made.2 stands.a);
+        b = made.4.place;
       },
     )
 of-b old t c (Err why) middle place stands g made =

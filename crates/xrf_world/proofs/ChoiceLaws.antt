@@ -1,5 +1,5 @@
 -- What a tick and a confirmation ask of a pair, and what they leave of it.
-use Rattle.std.proofs.Common.{◌≡◌, ◌≢◌, ◌≤◌, ◌<◌, ◌+◌, ◌&&◌, not, nat_le, is_none, ℕ, Bool, true, false, ◌∙◌, sym, ap, subst, refl, arith, inl, inr, eq-or-lt_of_le, List, ◌∷◌, length, Option, Some, None, Result, Ok, Err}
+use Rattle.std.proofs.Common.{◌≡◌, ◌≢◌, ◌≤◌, ◌<◌, ◌+◌, ◌&&◌, not, nat_le, is_none, ℕ, Bool, true, false, ◌∙◌, sym, ap, subst, refl, arith, inl, inr, eq-or-lt_of_le, List, ◌∷◌, Ok, Err}
 use Rattle.std.proofs.lemmas.Grind.{common_steps}
 use Rattle.xrf_base.specs.declared.site.Site.{Site}
 use Rattle.xrf_base.specs.declared.site.Site.TheVariants as site
@@ -9,10 +9,9 @@ use Rattle.xrf_trace.specs.declared.entry.Entry.{Entry}
 use Rattle.xrf_trace.specs.declared.entry.Land.TheVariants as land
 use Rattle.xrf_trace.specs.declared.entry.Refused.TheVariants.{Dishonest}
 use Rattle.xrf_trace.specs.declared.entry.Who.TheVariants as who
-use Rattle.xrf_trace.specs.Devices.{control}
-use Rattle.xrf_trace.specs.Jobs.{hist, live}
+use Rattle.xrf_trace.specs.Jobs.{hist}
 use Rattle.xrf_trace.specs.Refusals.{may_confirm, unless}
-use Rattle.xrf_trace.specs.Runs.{IsRun, outcome, outcome_of}
+use Rattle.xrf_trace.specs.Runs.{outcome, outcome_of}
 use Rattle.xrf_trace.specs.Scenario.{Scen, settings}
 use Rattle.xrf_trace.specs.Words.{now}
 use Rattle.xrf_world.specs.declared.middle.Middle.{Middle}
@@ -75,8 +74,9 @@ pub tick-made : (old : Pair) (t : List Entry) (at : ℕ) (middle : Middle) (seat
     → middle.scenario ≡ old.middle.scenario → MiddleIs middle (tick_entry at ∷ t)
     → SeatIs seat_a (settings old.middle.scenario site.A) (ticked (hist old.middle.scenario t site.A))
     → SeatIs seat_b (settings old.middle.scenario site.B) (ticked (hist old.middle.scenario t site.B))
-    → Makes old t choice.Tick (Ok (tick_entry at)) (record { middle = middle; a = record { seat = seat_a; kept = old.a.kept }; b = record { seat = seat_b; kept = old.b.kept } })
+    → Makes old t choice.Tick (Ok tt) (record { middle = middle; a = record { seat = seat_a; kept = old.a.kept }; b = record { seat = seat_b; kept = old.b.kept } })
 tick-made old t at middle seat_a seat_b stands same scen stays a b = (
+  tick_entry at,
   tick-is old.middle.scenario t at same,
   scen,
   record {
@@ -110,8 +110,9 @@ confirmed-place place s t at n site.B is = record { seat = is.seat; kept = besid
 
 pub confirm-made : (old : Pair) (t : List Entry) (at n : ℕ) (middle : Middle) → Stands old t → at ≡ now t → may_confirm old.middle.scenario t n ≡ true
     → middle.scenario ≡ old.middle.scenario → MiddleIs middle (confirm_entry at n ∷ t)
-    → Makes old t (choice.Confirm n) (Ok (confirm_entry at n)) (record { middle = middle; a = old.a; b = old.b })
+    → Makes old t (choice.Confirm n) (Ok tt) (record { middle = middle; a = old.a; b = old.b })
 confirm-made old t at n middle stands same may scen stays = (
+  confirm_entry at n,
   confirm-is old.middle.scenario t at n same may,
   scen,
   record {

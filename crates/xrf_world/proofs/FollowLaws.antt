@@ -213,4 +213,4 @@ can-count s t e scen is few = record {
 
 -- **an entry of a run may be followed**
 pub can-follow : (s : Scen) (t : List Entry) (e : Entry) → IsScen s → IsRun s (e ∷ t) → length t < CHOICES_MOST → CanFollow s t e
-can-follow s t e scen is few = record { lands = may-land s t e scen is few; counts = can-count s t e scen is few }
+can-follow s t e scen is few = record { lands = may-land s t e scen is few; counts = can-count s t e scen is few; few = few }

@@ -15,7 +15,6 @@ use Rattle.xrf_trace.specs.declared.entry.Who.{Who}
 use Rattle.xrf_trace.specs.Jobs.{hist}
 use Rattle.xrf_trace.specs.Runs.{outcome}
 use Rattle.xrf_trace.specs.Scenario.{IsScen, Scen, settings, work}
-use Rattle.xrf_trace.specs.Words.{who_at}
 use Rattle.xrf_world.specs.declared.middle.Middle.{Middle}
 use Rattle.xrf_world.specs.declared.place.Kept.{Kept}
 use Rattle.xrf_world.specs.declared.place.Place.{Place}
@@ -56,25 +55,13 @@ followed old new seat kept t x made e given job same scenario records after seat
   });
 }
 
--- A choice makes it of the place.
-pub made-at : (old : Middle) (place : Place) (t : List Entry) (x : Site) (c : Choice) (made e : Entry) (new : Middle) (after : Place) → made ≡ e
-    → outcome old.scenario t c ≡ Ok e → e.who ≡ who_at x → new.scenario ≡ old.scenario → StandsAt new after (e ∷ t) x
-    → MakesAt old place t x c (Ok made) new after
-made-at old place t x c made e new after same out own scenario stands = (
-  out ∙ ap (λ (one : Entry). Ok one) (sym same),
-  ap (λ (one : Entry). one.who) same ∙ own,
-  scenario,
-  subst (λ (one : Entry). StandsAt new after (one ∷ t) x) (sym same) stands,
-)
+-- A choice by which an act that is wanted is made makes it of the place.
+abbrev pub MakesEntry : Middle → Place → List Entry → Site → Middle → Place → Want → Land → Answer → Type 0
+MakesEntry old place t x new after w l a =
+    (m : MayMake old.scenario t x w l a) → StandsAt old place t x → StandsAt new after (m.entry ∷ t) x
 
--- So does one by which an act that is wanted is made.
-abbrev pub MakesEntry : Middle → Place → List Entry → Site → Entry → Middle → Place → Want → Land → Answer → Type 0
-MakesEntry old place t x made new after w l a =
-    (m : MayMake old.scenario t x w l a) → StandsAt old place t x → (made ≡ m.entry) × StandsAt new after (m.entry ∷ t) x
-
-pub act-made : (old : Middle) (place : Place) (t : List Entry) (x : Site) (c : Choice) (made : Entry) (new : Middle) (after : Place) (w : Want) (l : Land) (a : Answer)
-    → MakesEntry old place t x made new after w l a → new.scenario ≡ old.scenario → StandsAt old place t x → (m : MayMake old.scenario t x w l a)
-    → outcome old.scenario t c ≡ Ok m.entry → MakesAt old place t x c (Ok made) new after
-act-made old place t x c made new after w l a makes scenario stands m out =
-    let made_it : (made ≡ m.entry) × StandsAt new after (m.entry ∷ t) x = makes m stands in
-    made-at old place t x c made m.entry new after made_it.0 out (sym (ap (λ (e : Entry). e.who) m.is_entry)) scenario made_it.1
+pub act-made : (old : Middle) (place : Place) (t : List Entry) (x : Site) (c : Choice) (new : Middle) (after : Place) (w : Want) (l : Land) (a : Answer)
+    → MakesEntry old place t x new after w l a → new.scenario ≡ old.scenario → StandsAt old place t x → (m : MayMake old.scenario t x w l a)
+    → outcome old.scenario t c ≡ Ok m.entry → MakesAt old place t x c (Ok tt) new after
+act-made old place t x c new after w l a makes scenario stands m out =
+    (m.entry, out, sym (ap (λ (e : Entry). e.who) m.is_entry), scenario, makes m stands)

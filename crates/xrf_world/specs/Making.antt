@@ -1,11 +1,12 @@
 -- What is known where an entry is made, and what it leaves.
-use Rattle.std.specs.Prelude.{◌≡◌, ◌<◌, ◌≤◌, ◌*◌, ◌+◌, ◌==◌, ℕ, if◌then◌else◌, List, [], ◌∷◌, Option, Some, None, Result, Ok, Err}
+use Rattle.std.specs.Prelude.{◌≡◌, ◌<◌, ◌≤◌, ◌*◌, ◌+◌, ◌==◌, ℕ, if◌then◌else◌, List, [], ◌∷◌, length, Option, Some, None, Result, Ok, Err}
 use Rattle.xrf_base.specs.declared.items.ItemAnswer.{ItemAnswer}
 use Rattle.xrf_base.specs.declared.site.Site.{Site}
 use Rattle.xrf_devices.specs.Writing.{MayLand}
 use Rattle.xrf_setup.specs.declared.choice.Choice.{Choice}
 use Rattle.xrf_setup.specs.declared.choice.Choice.TheVariants as choice
 use Rattle.xrf_setup.specs.declared.choice.Landing.{Landing}
+use Rattle.xrf_setup.specs.declared.ranges.TheConstants.{CHOICES_MOST}
 use Rattle.xrf_history.specs.declared.answer.Answer.{Answer}
 use Rattle.xrf_history.specs.declared.answer.Answer.TheVariants as answer
 use Rattle.xrf_history.specs.declared.want.Want.{Want}
@@ -44,10 +45,11 @@ MayRead s (want.KpRead k) = k < 2
 MayRead s (want.FileRead k) = (1 ≤ k) × (k ≤ s.settings.file)
 MayRead s _ = Unit {0}
 
--- what an entry asks of the data sets and of what is counted
+-- what an entry asks of the data sets, of what is counted, and of the journal
 pub record CanFollow (s : Scen) (t : List Entry) (e : Entry) : Type 0 where
   pub lands : MayLand s t e.act e.land
   pub counts : CanCount s t e
+  pub few : length t < CHOICES_MOST
 
 -- and one of a site, which gives the item taken last this answer, of what is kept there
 pub record CanRecord (s : Scen) (t : List Entry) (x : Site) (e : Entry) (given : Option ItemAnswer) : Type 0 where
@@ -128,14 +130,15 @@ pub record IsReached (s : Scen) (t : List Entry) (x : Site) (made : Act) (a : An
   pub is : outcome s t c ≡ Ok entry
 
 -- what a choice makes of a pair: the entry of its outcome is added, or it is refused and nothing changes
-abbrev pub Makes : Pair → List Entry → Choice → Result Entry Refused → Pair → Type 0
-Makes old t c (Ok e) new = (outcome old.middle.scenario t c ≡ Ok e) × (new.middle.scenario ≡ old.middle.scenario) × Stands new (e ∷ t)
+abbrev pub Makes : Pair → List Entry → Choice → Result (Unit {0}) Refused → Pair → Type 0
+Makes old t c (Ok done) new =
+    (e : Entry) × (outcome old.middle.scenario t c ≡ Ok e) × (new.middle.scenario ≡ old.middle.scenario) × Stands new (e ∷ t)
 Makes old t c (Err reason) new = (outcome old.middle.scenario t c ≡ Err reason) × (new ≡ old)
 
 -- and of one place of it
-abbrev pub MakesAt : Middle → Place → List Entry → Site → Choice → Result Entry Refused → Middle → Place → Type 0
-MakesAt middle place t x c (Ok e) middle_after place_after =
-    (outcome middle.scenario t c ≡ Ok e) × (e.who ≡ who_at x) × (middle_after.scenario ≡ middle.scenario) × StandsAt middle_after place_after (e ∷ t) x
+abbrev pub MakesAt : Middle → Place → List Entry → Site → Choice → Result (Unit {0}) Refused → Middle → Place → Type 0
+MakesAt middle place t x c (Ok done) middle_after place_after =
+    (e : Entry) × (outcome middle.scenario t c ≡ Ok e) × (e.who ≡ who_at x) × (middle_after.scenario ≡ middle.scenario) × StandsAt middle_after place_after (e ∷ t) x
 MakesAt middle place t x c (Err reason) middle_after place_after =
     (outcome middle.scenario t c ≡ Err reason) × (middle_after ≡ middle) × (place_after ≡ place)
 

@@ -1,5 +1,5 @@
 -- How a pair stands for a trace, and what a World is.
-use Rattle.std.specs.Prelude.{◌≡◌, ◌≤◌, ◌<◌, ℕ, List, length, reverse}
+use Rattle.std.specs.Prelude.{◌≡◌, ◌≤◌, ◌<◌, List, length, reverse, vec_capacity}
 use Rattle.xrf_base.specs.declared.site.Site.{Site}
 use Rattle.xrf_base.specs.declared.site.Site.TheVariants as site
 use Rattle.xrf_devices.specs.Standing.{StandsFor}
@@ -12,11 +12,15 @@ use Rattle.xrf_world.specs.declared.pair.Pair.{Pair}
 use Rattle.xrf_world.specs.declared.place.Place.{Place}
 use Rattle.xrf_world.specs.Counts.{CountsAre}
 use Rattle.xrf_world.specs.Places.{PlaceIs}
+use Rattle.xrf_world.specs.Runs.{Run}
 
--- what both sites share: the data sets and what is counted are those of the trace
+-- what both sites share: the data sets and what is counted are those of the trace, which the journal is, oldest first; the
+-- journal has its memory
 pub record MiddleIs (middle : Middle) (t : List Entry) : Type 0 where
   pub data_sets : StandsFor middle.data_sets middle.scenario t
   pub counts : CountsAre middle.counts middle.scenario t
+  pub journal : reverse middle.journal.items ≡ t
+  pub room : vec_capacity middle.journal ≡ CHOICES_MOST
 
 -- it, and what is kept of one site
 pub record StandsAt (m : Middle) (p : Place) (t : List Entry) (x : Site) : Type 0 where
@@ -35,11 +39,13 @@ pub record Goes (s : Scen) (t : List Entry) : Type 0 where
   pub run : IsRun s t
   pub few : length t < CHOICES_MOST
 
--- a World: its pair stands for the trace that its journal is, oldest first, which is that of a run; the journal has
--- its memory
-pub record IsWorld (pair : Pair) (journal : List Entry) (capacity : ℕ) : Type 0 where
+-- the run that a pair has in its journal
+abbrev pub run_of : Pair → Run
+run_of pair = record { scenario = pair.middle.scenario; trace = reverse pair.middle.journal.items }
+
+-- a World: its pair stands for the trace in its journal, which is that of a run
+pub record IsWorld (pair : Pair) : Type 0 where
   pub scen : IsScen pair.middle.scenario
-  pub run : IsRun pair.middle.scenario (reverse journal)
-  pub few : length journal ≤ CHOICES_MOST
-  pub stands : Stands pair (reverse journal)
-  pub room : capacity ≡ CHOICES_MOST
+  pub run : IsRun pair.middle.scenario (reverse pair.middle.journal.items)
+  pub few : length pair.middle.journal.items ≤ CHOICES_MOST
+  pub stands : Stands pair (reverse pair.middle.journal.items)

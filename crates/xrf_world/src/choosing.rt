@@ -47,7 +47,7 @@ fn choose_at(
     site: Site,
     choice: &Choice,
     is_free: bool,
-) -> Result<Entry, Refused>
+) -> Result<(), Refused>
     requires { (t : List Made) × StandsAt middle.old place.old t site × Goes middle.old.scenario t × (is_free ≡ reserve_is_free t)
         × (site_of choice.now ≡ Some site) }
     ensures { (t : List Made) → StandsAt middle.old place.old t site → Goes middle.old.scenario t → is_free ≡ reserve_is_free t
@@ -78,7 +78,7 @@ impl Pair {
     }
 
     // a choice of a site
-    fn choose_of(&mut self, site: Site, choice: &Choice) -> Result<Entry, Refused>
+    fn choose_of(&mut self, site: Site, choice: &Choice) -> Result<(), Refused>
         requires { (t : List Made) × Stands self.old t × Goes self.old.middle.scenario t × (site_of choice.now ≡ Some site) }
         ensures { (t : List Made) → Stands self.old t → Goes self.old.middle.scenario t → site_of choice.now ≡ Some site
             → Makes self.old t choice.now result self.new }
@@ -91,12 +91,12 @@ impl Pair {
     }
 
     /// An EXIT that is not refused.
-    pub(crate) fn exit_said(&mut self, site: Site, said: ExitAnswer) -> Entry
+    pub(crate) fn exit_said(&mut self, site: Site, said: ExitAnswer)
         requires { (t : List Made) × Stands self.old t × Goes self.old.middle.scenario t
             × (refusal self.old.middle.scenario t (choice.Exit site said) ≡ None) }
         ensures { (t : List Made) → Stands self.old t → Goes self.old.middle.scenario t
             → refusal self.old.middle.scenario t (choice.Exit site said) ≡ None
-            → Makes self.old t (choice.Exit site said) (Ok result) self.new }
+            → Makes self.old t (choice.Exit site said) (Ok tt) self.new }
     {
         match site {
             Site::A => exit_said(&mut self.middle, &mut self.a, site, said),
@@ -105,9 +105,9 @@ impl Pair {
     }
 
     // TICK
-    fn tick(&mut self) -> Entry
+    fn tick(&mut self)
         requires { (t : List Made) × Stands self.old t × Goes self.old.middle.scenario t }
-        ensures { (t : List Made) → Stands self.old t → Goes self.old.middle.scenario t → Makes self.old t choice.Tick (Ok result) self.new }
+        ensures { (t : List Made) → Stands self.old t → Goes self.old.middle.scenario t → Makes self.old t choice.Tick (Ok tt) self.new }
     {
         let tick = self.middle.counts.tick + 1;
         let entry = Entry {
@@ -120,11 +120,10 @@ impl Pair {
         self.a.seat.ticked(tick);
         self.b.seat.ticked(tick);
         self.middle.follow(&entry);
-        entry
     }
 
     // CONFIRM
-    fn confirm(&mut self, number: Inc) -> Result<Entry, Refused>
+    fn confirm(&mut self, number: Inc) -> Result<(), Refused>
         requires { (t : List Made) × Stands self.old t × Goes self.old.middle.scenario t }
         ensures { (t : List Made) → Stands self.old t → Goes self.old.middle.scenario t → Makes self.old t (choice.Confirm number) result self.new }
     {
@@ -139,16 +138,19 @@ impl Pair {
             land: Land::Full,
         };
         self.middle.follow(&entry);
-        Ok(entry)
+        Ok(())
     }
 
-    /// Makes a choice: gives the entry that it adds, or is refused and changes nothing.
-    pub(crate) fn choose(&mut self, choice: &Choice) -> Result<Entry, Refused>
+    /// Makes a choice: its entry is added, or it is refused and nothing changes.
+    pub(crate) fn choose(&mut self, choice: &Choice) -> Result<(), Refused>
         requires { (t : List Made) × Stands self.old t × Goes self.old.middle.scenario t }
         ensures { (t : List Made) → Stands self.old t → Goes self.old.middle.scenario t → Makes self.old t choice.now result self.new }
     {
         match choice {
-            Choice::Tick => Ok(self.tick()),
+            Choice::Tick => {
+                self.tick();
+                Ok(())
+            }
             Choice::Confirm(number) => self.confirm(*number),
             other => match site_of(other) {
                 Some(site) => self.choose_of(site, other),

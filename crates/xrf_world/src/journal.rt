@@ -1,6 +1,6 @@
 //! The journal of a World: its entries, the oldest first.
 
-ghost use Rattle.std.specs.Prelude.{◌≡◌, ◌<◌, [], ◌∷◌, ◌++◌, vec_len, vec_capacity};
+ghost use Rattle.std.specs.Prelude.{◌≡◌, ◌<◌, ◌∷◌, length, reverse, vec_capacity};
 
 use xrf_base::{Name8, UnitId};
 use xrf_cavm::Decided;
@@ -11,15 +11,18 @@ use xrf_history::EndWhy;
 use xrf_logrec::{Keypoint, LogRec};
 use xrf_msg::Message;
 use xrf_setup::{Landing, TornBytes};
-use xrf_trace::Entry;
+use xrf_trace::{Act, Entry, Land, Who};
 
-/// An entry more, for which there is room.
-pub(crate) fn push_entry(journal: &mut Vec<Entry>, entry: Entry)
-    requires room { vec_len journal.old < vec_capacity journal.old }
-    ensures items { journal.new.items ≡ journal.old.items ++ entry ∷ [] }
+/// An entry joins the journal, which has room for it.
+pub(crate) fn push_entry(journal: &mut Vec<Entry>, entry: &Entry)
+    requires room { length (reverse journal.old.items) < vec_capacity journal.old }
+    ensures trace { reverse journal.new.items ≡ entry.now ∷ reverse journal.old.items }
     ensures capacity { vec_capacity journal.new ≡ vec_capacity journal.old }
 {
     // the check finds the layout of an entry only where each type in it is named
+    let _who: Option<Who> = None;
+    let _act: Option<Act> = None;
+    let _land: Option<Land> = None;
     let _name: Option<Name8> = None;
     let _control: Option<Control> = None;
     let _message: Option<Message> = None;
@@ -34,14 +37,5 @@ pub(crate) fn push_entry(journal: &mut Vec<Entry>, entry: Entry)
     let _reply: Option<CebtReply> = None;
     let _exit: Option<ExitAnswer> = None;
     let _unit: Option<UnitId> = None;
-    let act = entry.act;
-    let land = entry.land;
-    let who = entry.who;
-    journal.push_reserved(Entry {
-        tick: entry.tick,
-        who,
-        inc: entry.inc,
-        act,
-        land,
-    });
+    journal.push_reserved(*entry);
 }

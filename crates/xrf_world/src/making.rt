@@ -53,10 +53,10 @@ pub(crate) fn make_act(
     want: &Want,
     land: Land,
     answer: &Answer,
-) -> Entry
+)
     requires { (t : List Made) × StandsAt middle.old place.old t site × MayMake middle.old.scenario t site want.now land answer.now }
     ensures made { (t : List Made) (m : MayMake middle.old.scenario t site want.now land answer.now) → StandsAt middle.old place.old t site
-        → (result ≡ m.entry) × StandsAt middle.new place.new (m.entry ∷ t) site }
+        → StandsAt middle.new place.new (m.entry ∷ t) site }
     ensures scenario { middle.new.scenario ≡ middle.old.scenario }
 {
     let inc = inc_of_want(want, place.seat.inc());
@@ -73,5 +73,4 @@ pub(crate) fn make_act(
     };
     middle.follow(&entry);
     place.kept.follow(&entry, given);
-    entry
 }

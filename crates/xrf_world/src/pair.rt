@@ -12,6 +12,7 @@ use std::alloc::{AllocError, Global};
 use xrf_base::Site;
 use xrf_devices::DataSets;
 use xrf_setup::Scenario;
+use xrf_setup::ranges::CHOICES_MOST;
 
 /// A pair at work. It stands for a trace of its scenario (`Stands` of the specs).
 #[derive(Drop)]
@@ -27,6 +28,7 @@ impl Pair {
         ensures stands { IfOk result (λ pair. Stands pair []) }
         ensures scenario { IfOk result (λ pair. pair.middle.scenario ≡ scenario.now) }
     {
+        let journal = Vec::with_capacity(alloc, CHOICES_MOST)?;
         let data_sets = DataSets::new(alloc, scenario)?;
         let counts = Counts::new(alloc, scenario)?;
         let a = Place::new(alloc, scenario, Site::A)?;
@@ -36,6 +38,7 @@ impl Pair {
             scenario,
             data_sets,
             counts,
+            journal,
         };
         Ok(Pair { middle, a, b })
     }

@@ -19,10 +19,10 @@ use xrf_history::Answer;
 use xrf_trace::{Act, Entry, Land, Refused};
 
 // the job at a site is handed the answer of a choice
-fn reach(middle: &mut Middle, place: &mut Place, site: Site, act: Act, answer: &Answer) -> Entry
+fn reach(middle: &mut Middle, place: &mut Place, site: Site, act: Act, answer: &Answer)
     requires { (t : List Made) × (c : Chosen) × StandsAt middle.old place.old t site × IsReached middle.old.scenario t site act answer.now c }
     ensures { (t : List Made) (c : Chosen) → StandsAt middle.old place.old t site → IsReached middle.old.scenario t site act answer.now c
-        → MakesAt middle.old place.old t site c (Ok result) middle.new place.new }
+        → MakesAt middle.old place.old t site c (Ok tt) middle.new place.new }
 {
     let entry = Entry {
         tick: middle.counts.tick,
@@ -34,11 +34,10 @@ fn reach(middle: &mut Middle, place: &mut Place, site: Site, act: Act, answer: &
     place.seat.take(answer);
     middle.follow(&entry);
     place.kept.follow(&entry, None);
-    entry
 }
 
 /// ABEND.
-pub(crate) fn abend(middle: &mut Middle, place: &mut Place, site: Site) -> Result<Entry, Refused>
+pub(crate) fn abend(middle: &mut Middle, place: &mut Place, site: Site) -> Result<(), Refused>
     requires { (t : List Made) × StandsAt middle.old place.old t site × Goes middle.old.scenario t }
     ensures { (t : List Made) → StandsAt middle.old place.old t site → Goes middle.old.scenario t
         → MakesAt middle.old place.old t site (choice.Abend site) result middle.new place.new }
@@ -46,7 +45,8 @@ pub(crate) fn abend(middle: &mut Middle, place: &mut Place, site: Site) -> Resul
     if !place.seat.may_abend() {
         return Err(Refused::NotEnabled);
     }
-    Ok(reach(middle, place, site, Act::Abend, &Answer::Abend))
+    reach(middle, place, site, Act::Abend, &Answer::Abend);
+    Ok(())
 }
 
 /// REPLY: GO, or IGNORE.
@@ -55,7 +55,7 @@ pub(crate) fn reply(
     place: &mut Place,
     site: Site,
     go: bool,
-) -> Result<Entry, Refused>
+) -> Result<(), Refused>
     requires { (t : List Made) × StandsAt middle.old place.old t site × Goes middle.old.scenario t }
     ensures { (t : List Made) → StandsAt middle.old place.old t site → Goes middle.old.scenario t
         → MakesAt middle.old place.old t site (choice.Reply site go) result middle.new place.new }
@@ -64,7 +64,8 @@ pub(crate) fn reply(
         return Err(Refused::NotEnabled);
     }
     let at = middle.counts.tick;
-    Ok(reach(middle, place, site, Act::Reply(go), &Answer::Reply(go, at)))
+    reach(middle, place, site, Act::Reply(go), &Answer::Reply(go, at));
+    Ok(())
 }
 
 /// CEBT.
@@ -73,7 +74,7 @@ pub(crate) fn command(
     place: &mut Place,
     site: Site,
     command: Cebt,
-) -> Result<Entry, Refused>
+) -> Result<(), Refused>
     requires { (t : List Made) × StandsAt middle.old place.old t site × Goes middle.old.scenario t }
     ensures { (t : List Made) → StandsAt middle.old place.old t site → Goes middle.old.scenario t
         → MakesAt middle.old place.old t site (choice.Cebt site command) result middle.new place.new }
@@ -83,27 +84,23 @@ pub(crate) fn command(
     }
     let at = middle.counts.tick;
     let reply = place.seat.reply(command);
-    Ok(reach(
+    reach(
         middle,
         place,
         site,
         Act::Cebt(command, reply),
         &Answer::Cebt(command, at),
-    ))
+    );
+    Ok(())
 }
 
 /// An EXIT that is not refused.
-pub(crate) fn exit_said(
-    middle: &mut Middle,
-    place: &mut Place,
-    site: Site,
-    said: ExitAnswer,
-) -> Entry
+pub(crate) fn exit_said(middle: &mut Middle, place: &mut Place, site: Site, said: ExitAnswer)
     requires { (t : List Made) × StandsAt middle.old place.old t site × Goes middle.old.scenario t
         × (refusal middle.old.scenario t (choice.Exit site said) ≡ None) }
     ensures { (t : List Made) → StandsAt middle.old place.old t site → Goes middle.old.scenario t
         → refusal middle.old.scenario t (choice.Exit site said) ≡ None
-        → MakesAt middle.old place.old t site (choice.Exit site said) (Ok result) middle.new place.new }
+        → MakesAt middle.old place.old t site (choice.Exit site said) (Ok tt) middle.new place.new }
 {
     let at = middle.counts.tick;
     reach(
@@ -112,7 +109,7 @@ pub(crate) fn exit_said(
         site,
         Act::Exit(said),
         &Answer::Exit(said, at),
-    )
+    );
 }
 
 /// EXIT.
@@ -121,13 +118,16 @@ pub(crate) fn exit(
     place: &mut Place,
     site: Site,
     said: ExitAnswer,
-) -> Result<Entry, Refused>
+) -> Result<(), Refused>
     requires { (t : List Made) × StandsAt middle.old place.old t site × Goes middle.old.scenario t }
     ensures { (t : List Made) → StandsAt middle.old place.old t site → Goes middle.old.scenario t
         → MakesAt middle.old place.old t site (choice.Exit site said) result middle.new place.new }
 {
     match exit_refused(place.seat.notice(), said) {
         Some(reason) => Err(reason),
-        None => Ok(exit_said(middle, place, site, said)),
+        None => {
+            exit_said(middle, place, site, said);
+            Ok(())
+        }
     }
 }

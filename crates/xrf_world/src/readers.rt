@@ -33,7 +33,7 @@ impl World {
     pub fn finished(&self) -> bool
         ensures { result ≡ report.is_finished self.now.scenario self.now.trace }
     {
-        self.pair.is_finished(self.journal.len())
+        self.pair.is_finished()
     }
 
     /// The notice that is pending at a site, none where none is.

@@ -12,7 +12,6 @@ ghost use Rattle.xrf_world.specs.Standing.{Stands};
 use crate::pair::Pair;
 use xrf_base::Site;
 use xrf_setup::Choice;
-use xrf_setup::ranges::CHOICES_MOST;
 
 impl Pair {
     // a site has no enabled STEP and no pending notice
@@ -33,13 +32,12 @@ impl Pair {
         self.middle.scenario.ticks() <= self.middle.counts.tick
     }
 
-    /// Whether a run with so many entries is finished: there is no room for another, or its time is over and both sites
-    /// are at rest.
-    pub(crate) fn is_finished(&self, count: usize) -> bool
+    /// Whether its run is finished: there is no room for another entry, or its time is over and both sites are at rest.
+    pub(crate) fn is_finished(&self) -> bool
         requires { (t : List Made) × Stands self.now t × ((x : Of) → FewEvents (hist self.now.middle.scenario t x)) }
-        ensures { (t : List Made) → Stands self.now t → count ≡ length t → result ≡ is_finished self.now.middle.scenario t }
+        ensures { (t : List Made) → Stands self.now t → result ≡ is_finished self.now.middle.scenario t }
     {
-        if count == CHOICES_MOST {
+        if self.middle.is_full() {
             return true;
         }
         if !self.is_over() {

@@ -31,7 +31,7 @@ pub(crate) fn start_active(
     middle: &mut Middle,
     place: &mut Place,
     site: Site,
-) -> Result<Entry, Refused>
+) -> Result<(), Refused>
     requires { (t : List Made) × StandsAt middle.old place.old t site × Goes middle.old.scenario t }
     ensures { (t : List Made) → StandsAt middle.old place.old t site → Goes middle.old.scenario t
         → MakesAt middle.old place.old t site (choice.StartActive site) result middle.new place.new }
@@ -43,7 +43,7 @@ pub(crate) fn start_active(
     place.seat.start_active();
     middle.follow(&entry);
     place.kept.follow(&entry, None);
-    Ok(entry)
+    Ok(())
 }
 
 /// START STANDBY.
@@ -51,7 +51,7 @@ pub(crate) fn start_standby(
     middle: &mut Middle,
     place: &mut Place,
     site: Site,
-) -> Result<Entry, Refused>
+) -> Result<(), Refused>
     requires { (t : List Made) × StandsAt middle.old place.old t site × Goes middle.old.scenario t }
     ensures { (t : List Made) → StandsAt middle.old place.old t site → Goes middle.old.scenario t
         → MakesAt middle.old place.old t site (choice.StartStandby site) result middle.new place.new }
@@ -63,5 +63,5 @@ pub(crate) fn start_standby(
     place.seat.start_standby();
     middle.follow(&entry);
     place.kept.follow(&entry, None);
-    Ok(entry)
+    Ok(())
 }

@@ -19,7 +19,7 @@ use crate::wants::{is_signal, may_make, while_left};
 use xrf_base::Site;
 use xrf_history::{Answer, Want};
 use xrf_setup::Landing;
-use xrf_trace::{Entry, Land, Refused};
+use xrf_trace::{Land, Refused};
 
 /// What is wanted of a site.
 pub(crate) fn wanted(middle: &Middle, place: &Place, site: Site) -> Want
@@ -31,33 +31,27 @@ pub(crate) fn wanted(middle: &Middle, place: &Place, site: Site) -> Want
 }
 
 // a block of the log is read
-fn make_block_read(
-    middle: &mut Middle,
-    place: &mut Place,
-    site: Site,
-    block: u32,
-    land: Land,
-) -> Entry
+fn make_block_read(middle: &mut Middle, place: &mut Place, site: Site, block: u32, land: Land)
     requires { (t : List Made) × (c : Choice) × StandsAt middle.old place.old t site × IsMade middle.old.scenario t site (wants.LogRead block) land c }
     ensures { (t : List Made) (c : Choice) → StandsAt middle.old place.old t site → IsMade middle.old.scenario t site (wants.LogRead block) land c
-        → MakesAt middle.old place.old t site c (Ok result) middle.new place.new }
+        → MakesAt middle.old place.old t site c (Ok tt) middle.new place.new }
 {
     let mut bytes = [0; 4096];
     let answer = block_answer(&middle.data_sets, block, place.seat.has_read, &mut bytes);
-    make_act(middle, place, site, &Want::LogRead(block), land, &answer)
+    make_act(middle, place, site, &Want::LogRead(block), land, &answer);
 }
 
 // the next act, in full or as a signal that is lost
-fn make_next(middle: &mut Middle, place: &mut Place, site: Site, want: &Want, land: Land) -> Entry
+fn make_next(middle: &mut Middle, place: &mut Place, site: Site, want: &Want, land: Land)
     requires { (t : List Made) × (c : Choice) × StandsAt middle.old place.old t site × IsMade middle.old.scenario t site want.now land c }
     ensures { (t : List Made) (c : Choice) → StandsAt middle.old place.old t site → IsMade middle.old.scenario t site want.now land c
-        → MakesAt middle.old place.old t site c (Ok result) middle.new place.new }
+        → MakesAt middle.old place.old t site c (Ok tt) middle.new place.new }
 {
     match want {
         Want::LogRead(block) => make_block_read(middle, place, site, *block, land),
         _ => {
             let answer = middle.answer(place, site, want);
-            make_act(middle, place, site, want, land, &answer)
+            make_act(middle, place, site, want, land, &answer);
         }
     }
 }
@@ -68,7 +62,7 @@ pub(crate) fn step(
     place: &mut Place,
     site: Site,
     is_free: bool,
-) -> Result<Entry, Refused>
+) -> Result<(), Refused>
     requires { (t : List Made) × StandsAt middle.old place.old t site × Goes middle.old.scenario t × (is_free ≡ reserve_is_free t) }
     ensures { (t : List Made) → StandsAt middle.old place.old t site → Goes middle.old.scenario t → is_free ≡ reserve_is_free t
         → MakesAt middle.old place.old t site (choice.Step site) result middle.new place.new }
@@ -77,11 +71,12 @@ pub(crate) fn step(
     if !may_make(is_free, &want) {
         return Err(Refused::NotEnabled);
     }
-    Ok(make_next(middle, place, site, &want, Land::Full))
+    make_next(middle, place, site, &want, Land::Full);
+    Ok(())
 }
 
 /// LOSE.
-pub(crate) fn lose(middle: &mut Middle, place: &mut Place, site: Site) -> Result<Entry, Refused>
+pub(crate) fn lose(middle: &mut Middle, place: &mut Place, site: Site) -> Result<(), Refused>
     requires { (t : List Made) × StandsAt middle.old place.old t site × Goes middle.old.scenario t }
     ensures { (t : List Made) → StandsAt middle.old place.old t site → Goes middle.old.scenario t
         → MakesAt middle.old place.old t site (choice.Lose site) result middle.new place.new }
@@ -90,7 +85,8 @@ pub(crate) fn lose(middle: &mut Middle, place: &mut Place, site: Site) -> Result
     if !is_signal(&want) {
         return Err(Refused::NotEnabled);
     }
-    Ok(make_next(middle, place, site, &want, Land::Lost))
+    make_next(middle, place, site, &want, Land::Lost);
+    Ok(())
 }
 
 /// FAIL.
@@ -99,7 +95,7 @@ pub(crate) fn fail(
     place: &mut Place,
     site: Site,
     cut: &Landing,
-) -> Result<Entry, Refused>
+) -> Result<(), Refused>
     requires { (t : List Made) × StandsAt middle.old place.old t site × Goes middle.old.scenario t }
     ensures { (t : List Made) → StandsAt middle.old place.old t site → Goes middle.old.scenario t
         → MakesAt middle.old place.old t site (choice.Fail site cut.now) result middle.new place.new }
@@ -109,14 +105,15 @@ pub(crate) fn fail(
         Some(reason) => Err(reason),
         None => {
             let at = middle.counts.tick;
-            Ok(make_act(
+            make_act(
                 middle,
                 place,
                 site,
                 &want,
                 Land::Fail(*cut),
                 &Answer::Failed(at),
-            ))
+            );
+            Ok(())
         }
     }
 }

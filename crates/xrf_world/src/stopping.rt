@@ -28,10 +28,10 @@ fn cut_of_want(want: &Want) -> Act
 }
 
 // the job is gone, and of its write this lands
-fn cut_off(middle: &mut Middle, place: &mut Place, site: Site, want: &Want, cut: &Landing) -> Entry
+fn cut_off(middle: &mut Middle, place: &mut Place, site: Site, want: &Want, cut: &Landing)
     requires { (t : List Made) × StandsAt middle.old place.old t site × IsStopped middle.old.scenario t site want.now cut.now }
     ensures { (t : List Made) → StandsAt middle.old place.old t site → IsStopped middle.old.scenario t site want.now cut.now
-        → MakesAt middle.old place.old t site (choice.Stop site cut.now) (Ok result) middle.new place.new }
+        → MakesAt middle.old place.old t site (choice.Stop site cut.now) (Ok tt) middle.new place.new }
 {
     let entry = Entry {
         tick: middle.counts.tick,
@@ -43,7 +43,6 @@ fn cut_off(middle: &mut Middle, place: &mut Place, site: Site, want: &Want, cut:
     place.seat.vacate();
     middle.follow(&entry);
     place.kept.follow(&entry, None);
-    entry
 }
 
 /// STOP.
@@ -52,7 +51,7 @@ pub(crate) fn stop(
     place: &mut Place,
     site: Site,
     cut: &Landing,
-) -> Result<Entry, Refused>
+) -> Result<(), Refused>
     requires { (t : List Made) × StandsAt middle.old place.old t site × Goes middle.old.scenario t }
     ensures { (t : List Made) → StandsAt middle.old place.old t site → Goes middle.old.scenario t
         → MakesAt middle.old place.old t site (choice.Stop site cut.now) result middle.new place.new }
@@ -60,6 +59,9 @@ pub(crate) fn stop(
     let want = wanted(middle, place, site);
     match stop_refused(cut, place.seat.has_job(), &want) {
         Some(reason) => Err(reason),
-        None => Ok(cut_off(middle, place, site, &want, cut)),
+        None => {
+            cut_off(middle, place, site, &want, cut);
+            Ok(())
+        }
     }
 }

@@ -1,6 +1,6 @@
 //! The World: a scenario at work, with the journal of what has happened.
 
-ghost use Rattle.std.specs.Prelude.{◌≡◌, ◌<◌, ◌≤◌, [], ◌∷◌, ◌++◌, Some, None, Ok, IfOk, IsTrue, length, reverse, vec_len, vec_capacity};
+ghost use Rattle.std.specs.Prelude.{◌≡◌, ◌<◌, ◌≤◌, [], Some, None, Ok, IfOk, IsTrue, length, reverse};
 ghost use Rattle.xrf_exit.specs.Exit.{is_allowed};
 ghost use Rattle.xrf_exit.specs.declared.Notice.{Notice as Told};
 ghost use Rattle.xrf_log.specs.Flight.{flight};
@@ -14,9 +14,8 @@ ghost use Rattle.xrf_trace.specs.Safe.{Safe};
 ghost use Rattle.xrf_trace.specs.Scenario.{IsScen};
 ghost use Rattle.xrf_world.specs.Report.{notice_at};
 ghost use Rattle.xrf_world.specs.Runs.{Applied};
-ghost use Rattle.xrf_world.specs.Standing.{IsWorld, Stands};
+ghost use Rattle.xrf_world.specs.Standing.{IsWorld, run_of};
 
-use crate::journal::push_entry;
 use crate::pair::Pair;
 use std::alloc::{AllocError, Global};
 use std::marker::Model;
@@ -30,51 +29,39 @@ use xrf_trace::{Entry, Refused};
 #[derive(Drop)]
 pub struct World {
     pub(crate) pair: Pair,
-    // oldest first
-    pub(crate) journal: Vec<Entry>,
 }
 
 impl Model for World {
-    ghost use Rattle.std.specs.Prelude.{reverse, vec_capacity};
     ghost use Rattle.xrf_world.specs.Runs.{Run};
 
     ghost Value = { Run };
 
-    ghost view = { λ w. record { scenario = w.pair.middle.scenario; trace = reverse w.journal.items } };
+    ghost use Rattle.xrf_world.specs.Standing.{IsWorld, run_of};
 
-    ghost use Rattle.xrf_world.specs.Standing.{IsWorld};
+    ghost view = { λ w. run_of w.pair };
 
-    ghost invariant = { λ w. IsWorld w.pair w.journal.items (vec_capacity w.journal) };
+    ghost invariant = { λ w. IsWorld w.pair };
 }
 
-// a choice, and its entry
-fn advance(pair: &mut Pair, journal: &mut Vec<Entry>, choice: &Choice) -> Result<(), Refused>
-    requires world { IsWorld pair.old journal.old.items (vec_capacity journal.old) }
-    requires room { length journal.old.items < CHOICES_MOST }
-    ensures world { IsWorld pair.new journal.new.items (vec_capacity journal.new) }
-    ensures applied { Applied (record { scenario = pair.old.middle.scenario; trace = reverse journal.old.items }) choice.now result
-        (record { scenario = pair.new.middle.scenario; trace = reverse journal.new.items }) }
+// a choice
+fn advance(pair: &mut Pair, choice: &Choice) -> Result<(), Refused>
+    requires world { IsWorld pair.old }
+    requires room { length pair.old.middle.journal.items < CHOICES_MOST }
+    ensures world { IsWorld pair.new }
+    ensures applied { Applied (run_of pair.old) choice.now result (run_of pair.new) }
 {
-    match pair.choose(choice) {
-        Ok(entry) => {
-            push_entry(journal, entry);
-            Ok(())
-        }
-        Err(refused) => Err(refused),
-    }
+    pair.choose(choice)
 }
 
-// an EXIT that is not refused, and its entry
-fn add_exit(pair: &mut Pair, journal: &mut Vec<Entry>, site: Site, said: ExitAnswer)
-    requires world { IsWorld pair.old journal.old.items (vec_capacity journal.old) }
-    requires room { length journal.old.items < CHOICES_MOST }
-    requires accepted { refusal pair.old.middle.scenario (reverse journal.old.items) (choice.Exit site said) ≡ None }
-    ensures world { IsWorld pair.new journal.new.items (vec_capacity journal.new) }
-    ensures applied { Applied (record { scenario = pair.old.middle.scenario; trace = reverse journal.old.items }) (choice.Exit site said) (Ok tt)
-        (record { scenario = pair.new.middle.scenario; trace = reverse journal.new.items }) }
+// an EXIT that is not refused
+fn advance_exit(pair: &mut Pair, site: Site, said: ExitAnswer)
+    requires world { IsWorld pair.old }
+    requires room { length pair.old.middle.journal.items < CHOICES_MOST }
+    requires accepted { refusal pair.old.middle.scenario (reverse pair.old.middle.journal.items) (choice.Exit site said) ≡ None }
+    ensures world { IsWorld pair.new }
+    ensures applied { Applied (run_of pair.old) (choice.Exit site said) (Ok tt) (run_of pair.new) }
 {
-    let made = pair.exit_said(site, said);
-    push_entry(journal, made);
+    pair.exit_said(site, said);
 }
 
 impl World {
@@ -83,9 +70,8 @@ impl World {
         ensures world { IfOk result (λ world. world ≡ record { scenario = scenario.now; trace = [] }) }
         ensures scenario { IfOk result (λ world. IsScen scenario.now) }
     {
-        let journal = Vec::with_capacity(alloc, CHOICES_MOST)?;
         let pair = Pair::new(alloc, scenario)?;
-        Ok(World { pair, journal })
+        Ok(World { pair })
     }
 
     /// Makes a choice: one entry is added, or the choice is refused and nothing changes. It takes no memory. The run
@@ -97,7 +83,7 @@ impl World {
         ensures promises { Promises self.new.scenario self.new.trace }
         ensures book { flight (log self.new.trace) ≡ [] → IsBookAt self.new.scenario self.new.trace }
     {
-        advance(&mut self.pair, &mut self.journal, choice)
+        advance(&mut self.pair, choice)
     }
 
     /// The exit of the job at a site has answered the notice that is pending: the entry of that EXIT is added. It takes
@@ -110,7 +96,7 @@ impl World {
         ensures promises { Promises self.new.scenario self.new.trace }
         ensures book { flight (log self.new.trace) ≡ [] → IsBookAt self.new.scenario self.new.trace }
     {
-        add_exit(&mut self.pair, &mut self.journal, site, answer);
+        advance_exit(&mut self.pair, site, answer);
     }
 
     /// The journal, the oldest entry first: that of a run.
@@ -121,6 +107,6 @@ impl World {
         ensures scenario { IsScen self.now.scenario }
         ensures few { length self.now.trace ≤ CHOICES_MOST }
     {
-        self.journal.as_slice()
+        self.pair.middle.journal.as_slice()
     }
 }

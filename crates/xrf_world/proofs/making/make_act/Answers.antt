@@ -58,10 +58,8 @@ returns-clause-made c = λ t m stands.
     c.act_of_want-act.result (act_of_want (items_taken t x + 1) (last_decision h) w) c.args.land stands.middle.counts.tick c.who_at.ensures incs acts
     ∙ m.is_entry in
     let records : CanRecord s t x m.entry c.take-given.result =
-    subst (λ (given : Option ItemAnswer). CanRecord s t x m.entry given) (sym (c.take-given.ensures.answer p m.job there m.handed)) m.records in (
-      same,
-      followed c.args.middle.now c.follow.new.self c.vacate_if_ended.new.seat c.follow-2.new.self t x
-          (entry_of c.args.middle.now.counts.tick c.who_at.result c.inc_of_want-inc.result c.act_of_want-act.result c.args.land) m.entry c.take-given.result
-          (after_want w h) same c.follow.ensures.scenario records m.after (c.vacate_if_ended.ensures p h handed) (c.follow.ensures.stands t stands.middle)
-          (c.follow-2.ensures s t x stands.place.kept),
-    )
+    subst (λ (given : Option ItemAnswer). CanRecord s t x m.entry given) (sym (c.take-given.ensures.answer p m.job there m.handed)) m.records in
+    followed c.args.middle.now c.follow.new.self c.vacate_if_ended.new.seat c.follow-2.new.self t x
+    (entry_of c.args.middle.now.counts.tick c.who_at.result c.inc_of_want-inc.result c.act_of_want-act.result c.args.land) m.entry c.take-given.result
+    (after_want w h) same c.follow.ensures.scenario records m.after (c.vacate_if_ended.ensures p h handed) (c.follow.ensures.stands t stands.middle)
+    (c.follow-2.ensures s t x stands.place.kept)

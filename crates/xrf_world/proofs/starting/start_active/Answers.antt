@@ -8,7 +8,7 @@ use Rattle.xrf_trace.specs.Jobs.{hist}
 use Rattle.xrf_trace.specs.Scenario.{settings}
 use Rattle.xrf_world.specs.Making.{CanFollow, IsStarted}
 use Rattle.xrf_world.specs.Seats.{SeatIs}
-use Rattle.xrf_world.proofs.MadeLaws.{followed, made-at}
+use Rattle.xrf_world.proofs.MadeLaws.{followed}
 use Rattle.xrf_world.proofs.ReachLaws.{active-made, not-there}
 use Rattle.xrf_world.proofs.starting.start_active.Goals as goal
 
@@ -35,9 +35,12 @@ returns c = λ t stands g.
     let none : is_none (hist s t x) ≡ true =
     not-there (hist s t x) (sym (c.has_job.ensures (settings s x) (hist s t x) stands.place.seat) ∙ c.if-has_job.false) in
     let made : IsStarted s t x act.StartActive StartedActive (choice.StartActive x) = active-made s t x g none in
-    let same : c.start_entry-entry.result ≡ e = c.start_entry-entry.ensures t stands.middle.counts.tick in
-    made-at old c.args.place.now t x (choice.StartActive x) c.start_entry-entry.result e new (record { seat = seat; kept = kept }) same made.is refl
-    c.follow.ensures.scenario
-    (followed old new seat kept t x c.start_entry-entry.result e None (Some (StartedActive ∷ [])) same c.follow.ensures.scenario made.records made.after
-    (c.start_active.ensures (settings s x) (subst (λ (job : Option (List Event)). SeatIs c.args.place.now.seat (settings s x) job) made.there stands.place.seat))
-    (c.follow.ensures.stands t stands.middle) (c.follow-2.ensures s t x stands.place.kept))
+    let same : c.start_entry-entry.result ≡ e = c.start_entry-entry.ensures t stands.middle.counts.tick in (
+      e,
+      made.is,
+      refl,
+      c.follow.ensures.scenario,
+      followed old new seat kept t x c.start_entry-entry.result e None (Some (StartedActive ∷ [])) same c.follow.ensures.scenario made.records made.after
+          (c.start_active.ensures (settings s x) (subst (λ (job : Option (List Event)). SeatIs c.args.place.now.seat (settings s x) job) made.there stands.place.seat))
+          (c.follow.ensures.stands t stands.middle) (c.follow-2.ensures s t x stands.place.kept),
+    )

@@ -45,7 +45,7 @@ returns-in-None c = λ t stands g.
     let w : c.wanted-want.result ≡ wanted s t x = c.wanted-want.ensures t stands in
     let met : fail_refusal cut (wanted s t x) ≡ None = sym (c.fail_refused.ensures ∙ ap (fail_refusal cut) w) ∙ c.in-None.is in
     let made : IsFailed s t x (wanted s t x) cut (choice.Fail x cut) = fail-made s t x cut g met in
-    act-made old place t x (choice.Fail x cut) c.make_act.result new after (wanted s t x) (land.Fail cut) (answer.Failed (now t))
-    (subst (λ (one : Want). MakesEntry old place t x c.make_act.result new after one (land.Fail cut) (answer.Failed (now t))) w
-    (subst (λ (n : ℕ). MakesEntry old place t x c.make_act.result new after c.wanted-want.result (land.Fail cut) (answer.Failed n)) stands.middle.counts.tick
+    act-made old place t x (choice.Fail x cut) new after (wanted s t x) (land.Fail cut) (answer.Failed (now t))
+    (subst (λ (one : Want). MakesEntry old place t x new after one (land.Fail cut) (answer.Failed (now t))) w
+    (subst (λ (n : ℕ). MakesEntry old place t x new after c.wanted-want.result (land.Fail cut) (answer.Failed n)) stands.middle.counts.tick
     (c.make_act.ensures.made t))) c.make_act.ensures.scenario stands made.may made.is

@@ -36,7 +36,7 @@ returns c = λ t chosen stands made.
     let after = c.make_act.new.place in
     let read : place.seat.has_read ≡ has_read_block made.job =
     subst (λ (job : Option (List Event)). IfSome job (λ h. place.seat.has_read ≡ has_read_block h)) made.there stands.place.seat.has_read in
-    act-made old place t x chosen c.make_act.result new after (want.LogRead b) l (answer_of s t x made.job (want.LogRead b))
-    (subst (λ (a : Answer). MakesEntry old place t x c.make_act.result new after (want.LogRead b) l a)
+    act-made old place t x chosen new after (want.LogRead b) l (answer_of s t x made.job (want.LogRead b))
+    (subst (λ (a : Answer). MakesEntry old place t x new after (want.LogRead b) l a)
     (c.block_answer-answer.ensures s t stands.middle.data_sets ∙ ap (block_answer s t b) read)
     (c.make_act.ensures.made t)) c.make_act.ensures.scenario stands made.may made.is

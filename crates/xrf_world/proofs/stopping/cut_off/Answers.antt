@@ -1,5 +1,4 @@
 use Rattle.std.proofs.Common.{◌≡◌, ◌∙◌, None, ap, sym}
-use Rattle.xrf_setup.specs.declared.choice.Choice.TheVariants as choice
 use Rattle.xrf_history.specs.Holding.{number}
 use Rattle.xrf_trace.specs.declared.entry.Entry.{Entry}
 use Rattle.xrf_trace.specs.declared.entry.Land.TheVariants as land
@@ -8,7 +7,7 @@ use Rattle.xrf_trace.specs.Jobs.{hist}
 use Rattle.xrf_trace.specs.Scenario.{settings}
 use Rattle.xrf_trace.specs.Words.{now, who_at}
 use Rattle.xrf_world.specs.Making.{cut_of_want, inc_of_want}
-use Rattle.xrf_world.proofs.MadeLaws.{entry_of, entry-same, followed, made-at}
+use Rattle.xrf_world.proofs.MadeLaws.{entry_of, entry-same, followed}
 use Rattle.xrf_world.proofs.stopping.cut_off.Goals as goal
 
 pub returns : goal.returns
@@ -27,8 +26,11 @@ returns c = λ t stands stopped.
     let same : made ≡ stopped.entry =
     entry-same old.counts.tick (now t) c.who_at.result (who_at x) c.inc_of_want.result (inc_of_want w (number stopped.job)) c.cut_of_want.result (cut_of_want w)
     (land.Stop cut) stands.middle.counts.tick c.who_at.ensures incs c.cut_of_want.ensures
-    ∙ stopped.is_entry in
-    made-at old c.args.place.now t x (choice.Stop x cut) made stopped.entry new (record { seat = seat; kept = kept }) same stopped.is
-    (ap (λ (e : Entry). e.who) (sym stopped.is_entry)) c.follow.ensures.scenario
-    (followed old new seat kept t x made stopped.entry None None same c.follow.ensures.scenario stopped.records stopped.after
-    (c.vacate.ensures (settings s x) (hist s t x) stands.place.seat) (c.follow.ensures.stands t stands.middle) (c.follow-2.ensures s t x stands.place.kept))
+    ∙ stopped.is_entry in (
+      stopped.entry,
+      stopped.is,
+      ap (λ (e : Entry). e.who) (sym stopped.is_entry),
+      c.follow.ensures.scenario,
+      followed old new seat kept t x made stopped.entry None None same c.follow.ensures.scenario stopped.records stopped.after
+          (c.vacate.ensures (settings s x) (hist s t x) stands.place.seat) (c.follow.ensures.stands t stands.middle) (c.follow-2.ensures s t x stands.place.kept),
+    )

@@ -1,12 +1,11 @@
-use Rattle.std.proofs.Common.{vec_capacity}
 use Rattle.xrf_world.proofs.WorldLaws.{is-safe, is-book}
 use Rattle.xrf_world.proofs.world.World.apply.Goals as goal
 
 pub returns-clause-safe : goal.returns-clause-safe
-returns-clause-safe c = (is-safe c.advance.new.pair c.advance.new.journal.items (vec_capacity c.advance.new.journal) c.advance.ensures.world).0
+returns-clause-safe c = (is-safe c.advance.new.pair c.advance.ensures.world).0
 
 pub returns-clause-promises : goal.returns-clause-promises
-returns-clause-promises c = (is-safe c.advance.new.pair c.advance.new.journal.items (vec_capacity c.advance.new.journal) c.advance.ensures.world).1
+returns-clause-promises c = (is-safe c.advance.new.pair c.advance.ensures.world).1
 
 pub returns-clause-book : goal.returns-clause-book
-returns-clause-book c = is-book c.advance.new.pair c.advance.new.journal.items (vec_capacity c.advance.new.journal) c.advance.ensures.world
+returns-clause-book c = is-book c.advance.new.pair c.advance.ensures.world

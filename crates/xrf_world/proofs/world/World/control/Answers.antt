@@ -5,5 +5,5 @@ use Rattle.xrf_world.proofs.world.World.control.Goals as goal
 
 pub returns : goal.returns
 returns c =
-    c.control.ensures c.self.inside.pair.middle.scenario (reverse c.self.inside.journal.items) c.self.invariant.stands.middle.data_sets
+    c.control.ensures c.self.inside.pair.middle.scenario (reverse c.self.inside.pair.middle.journal.items) c.self.invariant.stands.middle.data_sets
     ∙ ap (λ (r : Run). control r.trace) c.self.view_is

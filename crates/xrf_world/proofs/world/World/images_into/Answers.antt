@@ -8,7 +8,7 @@ use Rattle.xrf_world.proofs.world.World.images_into.Goals as goal
 
 pub copy_from-requires : goal.copy_from-requires
 copy_from-requires c =
-    as-long c.args.images.now c.self.inside.pair.middle.data_sets c.self.inside.pair.middle.scenario (reverse c.self.inside.journal.items)
+    as-long c.args.images.now c.self.inside.pair.middle.data_sets c.self.inside.pair.middle.scenario (reverse c.self.inside.pair.middle.journal.items)
     c.self.invariant.stands.middle.data_sets
     (subst (λ (r : Run). HaveSizes c.args.images.now (limits r.scenario)) (sym c.self.view_is) c.requires)
 

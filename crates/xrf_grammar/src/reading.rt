@@ -32,6 +32,7 @@ fn read_form(form: Form, line: &[u8]) -> Result<Line, Reason>
 
 /// What a line between the header and the line CHOICES says, or that this line is CHOICES; else the
 /// first reason for which the line is none of them. The line has no byte outside blank to `~`.
+#[inline(never)]
 #[tactic(auto, using(crate::proofs::FormLaws::found_by_reading))]
 pub fn read_setting(format: Format, line: &[u8]) -> Result<Line, Reason>
     ensures found { IfOk result (λ says. Spells (settings_of format) (words line.now) says) }
@@ -46,6 +47,7 @@ pub fn read_setting(format: Format, line: &[u8]) -> Result<Line, Reason>
 
 /// What a line behind the line CHOICES says, or the first reason for which it is none. The line has
 /// no byte outside blank to `~`.
+#[inline(never)]
 #[tactic(auto, using(crate::proofs::FormLaws::found_by_reading))]
 pub fn read_choice(line: &[u8]) -> Result<Line, Reason>
     ensures found { IfOk result (λ says. Spells choices_table (words line.now) says) }

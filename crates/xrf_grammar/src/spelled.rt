@@ -109,7 +109,10 @@ fn setting_spelled(format: Format, line_words: &[&[u8]]) -> Option<Line>
 pub(crate) fn setting_by_words(format: Format, line: &[u8]) -> Option<Line>
     ensures { IfSome result (λ says. Ok says ≡ line_of (settings_of format) (words line.now)) }
 {
-    let words = LineWords::split(line)?;
+    let mut words = LineWords::new();
+    if !words.split(line) {
+        return None;
+    }
     setting_spelled(format, words.as_slice())
 }
 
@@ -117,7 +120,10 @@ pub(crate) fn setting_by_words(format: Format, line: &[u8]) -> Option<Line>
 pub(crate) fn choice_by_first_word(line: &[u8]) -> Option<Line>
     ensures { IfSome result (λ says. Ok says ≡ line_of choices_table (words line.now)) }
 {
-    let words = LineWords::split(line)?;
+    let mut words = LineWords::new();
+    if !words.split(line) {
+        return None;
+    }
     let forms = choices_beginning(first(words.as_slice()));
     spelled(forms, words.as_slice())
 }

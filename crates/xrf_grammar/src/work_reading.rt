@@ -115,6 +115,7 @@ fn read_work(
 }
 
 /// The first record or the line of work that some words spell.
+#[inline(never)]
 pub(crate) fn read_by_words(format: Format, words: &[&[u8]]) -> Option<Line>
     ensures { IfSome result (λ says. Spells (settings_of format) (texts words.now) says) }
 {

@@ -1,6 +1,6 @@
 //! The words of a line, split once.
 
-ghost use Rattle.std.specs.Prelude.{◌≡◌, IfSome};
+ghost use Rattle.std.specs.Prelude.{◌≡◌, [], IsTrue};
 ghost use Rattle.xrf_text.specs.Text.{words, texts};
 
 use crate::split_word;
@@ -28,23 +28,34 @@ impl<'a> Model for LineWords<'a> {
 }
 
 impl<'a> LineWords<'a> {
-    /// The words of a line; none where there are more than 8.
-    #[inline]
-    pub fn split(line: &'a [u8]) -> Option<LineWords<'a>>
-        ensures { IfSome result (λ found. found ≡ words line.now) }
+    /// No words.
+    #[inline(always)]
+    pub fn new() -> LineWords<'a>
+        ensures { result ≡ [] }
     {
-        let mut words: [&'a [u8]; 8] = [&[]; 8];
+        LineWords {
+            words: [&[]; 8],
+            count: 0,
+        }
+    }
+
+    /// Holds the words of a line in place of those before. False where there are more than 8: then
+    /// it is not said which are held.
+    pub fn split(&mut self, line: &'a [u8]) -> bool
+        ensures { IsTrue result → self.new ≡ words line.now }
+    {
         let mut count = 0;
         let mut rest = line;
         while let Some((word, behind)) = split_word(rest) {
             if count == MOST {
-                return None;
+                return false;
             }
-            words[count] = word;
+            self.words[count] = word;
             count += 1;
             rest = behind;
         }
-        Some(LineWords { words, count })
+        self.count = count;
+        true
     }
 
     /// The words.

@@ -17,18 +17,19 @@ use Rattle.xrf_trace.specs.Acts.{act_of, next_act}
 use Rattle.xrf_trace.specs.Entries.{act_cut, entry_at, inc_at, inc_of_act}
 use Rattle.xrf_trace.specs.Jobs.{hist}
 use Rattle.xrf_trace.specs.Runs.{outcome, outcome_of}
-use Rattle.xrf_trace.specs.Scenario.{Scen}
+use Rattle.xrf_trace.specs.Scenario.{Scen, settings}
 use Rattle.xrf_trace.specs.Words.{is_item, now, items_taken, who_at}
 use Rattle.xrf_owner_law.specs.Known.{IsKnown}
 use Rattle.xrf_owner_law.proofs.KnownLaw.{known}
 use Rattle.xrf_world.specs.Making.{IsStopped, cut_of_want, inc_of_want}
+use Rattle.xrf_world.specs.Seats.{want_of}
 use Rattle.xrf_world.specs.Standing.{Goes}
 use Rattle.xrf_world.specs.Wants as wants
 use Rattle.xrf_world.specs.Wants.{while_left, is_item_left, wanted, wanted_by, act_of_want}
 use Rattle.xrf_world.proofs.ActLaws.{inc-granted, own-hist, own-site, outcome-is}
 use Rattle.xrf_world.proofs.FailLaws.{torn-some, unless-met}
 use Rattle.xrf_world.proofs.FollowLaws.{can-follow}
-use Rattle.xrf_world.proofs.WantLaws.{by-item, by-want, stop-same}
+use Rattle.xrf_world.proofs.WantLaws.{by-item, by-want, holds-of-wanted, stop-same}
 use Rattle.xrf_history.proofs.Holding.{number-none}
 
 -- the act that is cut off
@@ -74,9 +75,20 @@ entry-stop s t x cut h there some =
     ∙ ap (λ (i : ℕ). record { tick = now t; who = who_at x; inc = i; act = cut_of_want (wanted s t x); land = land.Stop cut }) (sym (inc-cut (wanted s t x) h some))
 
 -- **STOP**
-pub stop-made : (s : Scen) (t : List Entry) (x : Site) (cut : Landing) → Goes s t → wants.stop_refusal cut (is_some (hist s t x)) (wanted s t x) ≡ None
+of-item : (s : Scen) (t : List Entry) (x : Site) (cut : Landing) → IsStopped s t x want.Nothing cut → IsStopped s t x want.Item cut
+of-item s t x cut is = record {
+  job = is.job;
+  entry = is.entry;
+  there = is.there;
+  is_entry = is.is_entry;
+  after = is.after;
+  records = is.records;
+  is = is.is;
+}
+
+stop-wanted : (s : Scen) (t : List Entry) (x : Site) (cut : Landing) → Goes s t → wants.stop_refusal cut (is_some (hist s t x)) (wanted s t x) ≡ None
     → IsStopped s t x (wanted s t x) cut
-stop-made s t x cut g ok = by (hist s t x) refl (job-there s t x cut ok)
+stop-wanted s t x cut g ok = by (hist s t x) refl (job-there s t x cut ok)
   where
     by : (job : Option (List Event)) → hist s t x ≡ job → is_some job ≡ true → IsStopped s t x (wanted s t x) cut
     by None there some = absurd (cc)
@@ -98,6 +110,10 @@ stop-made s t x cut g ok = by (hist s t x) refl (job-there s t x cut ok)
           };
           is = out;
         }
+
+pub stop-made : (s : Scen) (t : List Entry) (x : Site) (cut : Landing) (w : Want) → Goes s t → w ≡ want_of (settings s x) (hist s t x)
+    → wants.stop_refusal cut (is_some (hist s t x)) (wanted s t x) ≡ None → IsStopped s t x w cut
+stop-made s t x cut w g is ok = holds-of-wanted (λ (one : Want). IsStopped s t x one cut) (of-item s t x cut) s t x w is (stop-wanted s t x cut g ok)
 
 pub stop-refused : (s : Scen) (t : List Entry) (x : Site) (cut : Landing) (why : Refused)
     → wants.stop_refusal cut (is_some (hist s t x)) (wanted s t x) ≡ Some why → outcome s t (choice.Stop x cut) ≡ Err why

@@ -1,5 +1,5 @@
 -- What is refused by the next act is refused by what is wanted.
-use Rattle.std.proofs.Common.{◌≡◌, ℕ, Bool, true, false, ◌+◌, refl, if◌then◌else◌, List, Option, Some, None}
+use Rattle.std.proofs.Common.{◌≡◌, ◌∙◌, ℕ, Bool, true, false, ◌+◌, ap, refl, subst, sym, if◌then◌else◌, is_none, is_some, List, Option, Some, None}
 use Rattle.xrf_base.specs.declared.site.Site.{Site}
 use Rattle.xrf_setup.specs.declared.choice.Landing.{Landing}
 use Rattle.xrf_setup.specs.declared.choice.Landing.TheVariants as landing
@@ -116,3 +116,72 @@ pub wanted-of : (s : Scen) (t : List Entry) (x : Site) (job : Option (List Event
     → while_left (want_of (settings s x) job) (is_item_left s t x) ≡ wanted_by s t x job
 wanted-of s t x None = refl
 wanted-of s t x (Some h) = refl
+
+-- WHAT A JOB WANTS is what is wanted of its site, but for an ITEM where none is left.
+left-of : {X : Type 0} (f : Want → X) → f want.Nothing ≡ f want.Item → (w : Want) (is_left : Bool) → f (while_left w is_left) ≡ f w
+left-of f alike want.Item true = refl
+left-of f alike want.Item false = alike
+left-of f alike _ is_left = refl
+
+-- so what does not tell an ITEM from nothing is the same of both
+pub of-wanted : {X : Type 0} (f : Want → X) → f want.Nothing ≡ f want.Item → (s : Scen) (t : List Entry) (x : Site) (w : Want)
+    → w ≡ want_of (settings s x) (hist s t x) → f w ≡ f (wanted s t x)
+of-wanted f alike s t x w is =
+    ap f is ∙ sym (left-of f alike (want_of (settings s x) (hist s t x)) (is_item_left s t x)) ∙ ap f (wanted-of s t x (hist s t x))
+
+left-holds : (P : Want → Type 0) → (P want.Nothing → P want.Item) → (w : Want) (is_left : Bool) → P (while_left w is_left) → P w
+left-holds P alike want.Item true holds = holds
+left-holds P alike want.Item false holds = alike holds
+left-holds P alike _ is_left holds = holds
+
+pub holds-of-wanted : (P : Want → Type 0) → (P want.Nothing → P want.Item) → (s : Scen) (t : List Entry) (x : Site) (w : Want)
+    → w ≡ want_of (settings s x) (hist s t x) → P (wanted s t x) → P w
+holds-of-wanted P alike s t x w is holds =
+    subst P (sym is) (left-holds P alike (want_of (settings s x) (hist s t x)) (is_item_left s t x) (subst P (sym (wanted-of s t x (hist s t x))) holds))
+
+-- and where something is wanted it is that which the job wants
+left-met : (test : Want → Bool) → test want.Nothing ≡ false → (w : Want) (is_left : Bool) → test (while_left w is_left) ≡ true → while_left w is_left ≡ w
+left-met test none want.Item true met = refl
+left-met test none want.Item false met = absurd (cc)
+left-met test none _ is_left met = refl
+
+pub met-wanted : (test : Want → Bool) → test want.Nothing ≡ false → (s : Scen) (t : List Entry) (x : Site) (w : Want)
+    → w ≡ want_of (settings s x) (hist s t x) → test (wanted s t x) ≡ true → wanted s t x ≡ w
+met-wanted test none s t x w is met =
+    let left : while_left (want_of (settings s x) (hist s t x)) (is_item_left s t x) ≡ wanted s t x = wanted-of s t x (hist s t x) in
+    sym left
+    ∙ left-met test none (want_of (settings s x) (hist s t x)) (is_item_left s t x) (ap test left ∙ met)
+    ∙ sym is
+
+-- whether it may be made
+pub may-wanted : (s : Scen) (t : List Entry) (x : Site) (w : Want) (is_free is_left : Bool) → is_free ≡ reserve_is_free t → is_left ≡ is_item_left s t x
+    → w ≡ want_of (settings s x) (hist s t x) → may_make is_free (while_left w is_left) ≡ may_make (reserve_is_free t) (wanted s t x)
+may-wanted s t x w is_free is_left free left is =
+    ap (λ (b : Bool). may_make b (while_left w is_left)) free
+    ∙ ap (λ (b : Bool). may_make (reserve_is_free t) (while_left w b)) left
+    ∙ ap (λ (one : Want). may_make (reserve_is_free t) (while_left one (is_item_left s t x))) is
+    ∙ ap (may_make (reserve_is_free t)) (wanted-of s t x (hist s t x))
+
+-- an ITEM is refused a STOP and a FAIL as nothing is
+pub stop-alike : (cut : Landing) (has_job : Bool) → wants.stop_refusal cut has_job want.Nothing ≡ wants.stop_refusal cut has_job want.Item
+stop-alike landing.Nothing has_job = refl
+stop-alike landing.All has_job = refl
+stop-alike (landing.Torn bytes) has_job = refl
+
+pub fail-alike : (cut : Landing) → wants.fail_refusal cut want.Nothing ≡ wants.fail_refusal cut want.Item
+fail-alike landing.Nothing = refl
+fail-alike landing.All = refl
+fail-alike (landing.Torn bytes) = refl
+
+pub fails-nothing : (cut : Landing) → is_none (wants.fail_refusal cut want.Nothing) ≡ false
+fails-nothing landing.Nothing = refl
+fails-nothing landing.All = refl
+fails-nothing (landing.Torn bytes) = refl
+
+-- a site with no job wants nothing
+pub none-wanted : (s : Scen) (t : List Entry) (x : Site) → is_some (hist s t x) ≡ false → wanted s t x ≡ want.Nothing
+none-wanted s t x none = by (hist s t x) none
+  where
+    by : (job : Option (List Event)) → is_some job ≡ false → wanted_by s t x job ≡ want.Nothing
+    by None none = refl
+    by (Some h) none = absurd (cc)

@@ -15,6 +15,7 @@ ghost use Rattle.xrf_world.specs.Report.{state_of_item, item_state};
 use crate::state::ItemState;
 use std::alloc::{AllocError, Global};
 use xrf_base::ItemAnswer;
+use xrf_setup::ranges::ITEMS_MOST;
 use xrf_trace::{Act, Entry};
 
 /// The items that a site took.
@@ -126,6 +127,14 @@ impl Items {
         self.before_start = before_start_after(&entry.act, self.answers.len(), self.before_start);
         add_item(&mut self.answers, &entry.act);
         keep_answer(&mut self.answers, given);
+    }
+
+    /// The number of the item that is taken next.
+    pub(crate) fn next(&self) -> u32
+        requires { (s : Scen) × (t : List Made) × (x : Of) × ItemsAre self.now s t x × (length (work s x) ≤ ITEMS_MOST) }
+        ensures { (s : Scen) (t : List Made) (x : Of) → ItemsAre self.now s t x → result ≡ items_taken t x + 1 }
+    {
+        self.answers.len() as u32 + 1
     }
 
     /// How many were taken.

@@ -3,19 +3,22 @@
 ghost use Rattle.std.specs.Prelude.{◌≡◌, ◌∷◌, List, Some};
 ghost use Rattle.xrf_history.specs.declared.settings.Settings.{Settings};
 ghost use Rattle.xrf_history.specs.Events.{Event};
+ghost use Rattle.xrf_history.specs.Reserving.{last_decision};
 ghost use Rattle.xrf_trace.specs.declared.entry.Entry.{Entry as Made};
 ghost use Rattle.xrf_trace.specs.Words.{who_at};
 ghost use Rattle.xrf_world.specs.Making.{MayMake, inc_of_want};
 ghost use Rattle.xrf_world.specs.Seats.{SeatIs, after_want};
 ghost use Rattle.xrf_world.specs.Standing.{StandsAt};
+ghost use Rattle.xrf_world.specs.Wants.{act_of_want, decide_act};
 
 use crate::middle::Middle;
 use crate::place::Place;
 use crate::seat::Seat;
 use crate::wants::act_of_want;
 use xrf_base::{Inc, Site};
+use xrf_cavm::Decided;
 use xrf_history::{Answer, Want};
-use xrf_trace::{Entry, Land, Who};
+use xrf_trace::{Act, Entry, Land, Who};
 
 pub(crate) fn who_at(site: Site) -> Who
     ensures { result ≡ who_at site }
@@ -35,6 +38,26 @@ pub(crate) fn inc_of_want(want: &Want, inc: Inc) -> Inc
     }
 }
 
+fn decide_act(decided: Option<Decided>) -> Act
+    ensures { result ≡ decide_act decided }
+{
+    match decided {
+        Some(decision) => Act::Decide(decision),
+        None => Act::NoAct,
+    }
+}
+
+// the act that is wanted, of the job in a seat: an ITEM takes the item of this number
+fn act_of(seat: &Seat, number: u32, want: &Want) -> Act
+    ensures { (p : Settings) (h : List Event) → SeatIs seat.now p (Some h) → result ≡ act_of_want number (last_decision h) want.now }
+{
+    match want {
+        Want::Decide => decide_act(seat.decided()),
+        Want::Item => Act::Item(number),
+        other => act_of_want(other),
+    }
+}
+
 // a job that has ended is gone
 fn vacate_if_ended(seat: &mut Seat, want: &Want)
     ensures { (p : Settings) (h : List Event) → SeatIs seat.old p (Some h) → SeatIs seat.new p (after_want want.now h) }
@@ -51,25 +74,25 @@ pub(crate) fn make_act(
     place: &mut Place,
     site: Site,
     want: &Want,
-    land: Land,
+    land: &Land,
     answer: &Answer,
 )
-    requires { (t : List Made) × StandsAt middle.old place.old t site × MayMake middle.old.scenario t site want.now land answer.now }
-    ensures made { (t : List Made) (m : MayMake middle.old.scenario t site want.now land answer.now) → StandsAt middle.old place.old t site
+    requires { (t : List Made) × StandsAt middle.old place.old t site × MayMake middle.old.scenario t site want.now land.now answer.now }
+    ensures made { (t : List Made) (m : MayMake middle.old.scenario t site want.now land.now answer.now) → StandsAt middle.old place.old t site
         → StandsAt middle.new place.new (m.entry ∷ t) site }
     ensures scenario { middle.new.scenario ≡ middle.old.scenario }
 {
     let inc = inc_of_want(want, place.seat.inc());
-    let number = place.kept.items.answers.len() as u32 + 1;
+    let number = place.kept.items.next();
     let given = place.seat.take(answer);
-    let act = act_of_want(number, place.seat.decided(), want);
+    let act = act_of(&place.seat, number, want);
     vacate_if_ended(&mut place.seat, want);
     let entry = Entry {
         tick: middle.counts.tick,
         who: who_at(site),
         inc,
         act,
-        land,
+        land: *land,
     };
     middle.follow(&entry);
     place.kept.follow(&entry, given);

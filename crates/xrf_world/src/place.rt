@@ -7,6 +7,7 @@ ghost use Rattle.xrf_trace.specs.Landing.{is_stop};
 ghost use Rattle.xrf_trace.specs.Scenario.{Scen};
 ghost use Rattle.xrf_trace.specs.Words.{holds_after};
 ghost use Rattle.xrf_world.specs.Places.{KeptIs, PlaceIs, CanTake};
+ghost use Rattle.xrf_world.specs.Wants.{is_item_left};
 
 use crate::items::Items;
 use crate::seat::Seat;
@@ -56,6 +57,13 @@ impl Kept {
 }
 
 impl Place {
+    /// Whether its site has an item left that it has not taken.
+    pub(crate) fn has_left(&self, scenario: &Scenario, site: Site) -> bool
+        ensures { (t : List Made) → PlaceIs self.now scenario.now t site → result ≡ is_item_left scenario.now t site }
+    {
+        self.kept.items.answers.len() < scenario.work(site).len()
+    }
+
     /// Before the first choice.
     pub(crate) fn new(alloc: Global, scenario: &Scenario, site: Site) -> Result<Place, AllocError>
         ensures { IfOk result (λ place. PlaceIs place scenario.now [] site) }

@@ -16,20 +16,10 @@ use crate::middle::Middle;
 use crate::pair::Pair;
 use crate::place::Place;
 use crate::refused::{exit_refused, fail_refused, stop_refused, unless};
-use crate::wants::{is_signal, may_make, while_left};
+use crate::wants::{is_signal, may_make};
 use xrf_base::Site;
-use xrf_history::Want;
 use xrf_setup::Choice;
 use xrf_trace::Refused;
-
-// what is wanted of a site
-fn wanted(middle: &Middle, place: &Place, site: Site) -> Want
-    requires { (t : List Made) × StandsAt middle.now place.now t site × FewEvents (hist middle.now.scenario t site) }
-    ensures { (t : List Made) → StandsAt middle.now place.now t site → result ≡ wanted middle.now.scenario t site }
-{
-    let taken = place.kept.items.answers.len();
-    while_left(place.seat.want(), taken < middle.scenario.work(site).len())
-}
 
 // the refusal of a choice that goes by what is wanted of a site, and of another of a site
 fn refused_at(
@@ -43,10 +33,13 @@ fn refused_at(
     ensures { (t : List Made) → StandsAt middle.now place.now t site → is_free ≡ reserve_is_free t → site_of choice.now ≡ Some site
         → result ≡ refusal middle.now.scenario t choice.now }
 {
-    let want = wanted(middle, place, site);
     let seat = &place.seat;
+    let want = seat.want();
     match choice {
-        Choice::Step(_) => unless(may_make(is_free, &want), Refused::NotEnabled),
+        Choice::Step(_) => unless(
+            may_make(is_free, place.has_left(&middle.scenario, site), &want),
+            Refused::NotEnabled,
+        ),
         Choice::Lose(_) => unless(is_signal(&want), Refused::NotEnabled),
         Choice::Stop(_, cut) => stop_refused(cut, seat.has_job(), &want),
         Choice::Fail(_, cut) => fail_refused(cut, &want),

@@ -42,12 +42,12 @@ pub(crate) struct Seat {
     pub(crate) has_read: bool,
 }
 
-fn seen_after(answer: &Answer, seen: Control) -> Control
-    ensures { result ≡ seen_after answer.now seen }
+// the record that a job sees in an answer
+fn see(seen: &mut Control, answer: &Answer)
+    ensures { seen.new ≡ seen_after answer.now seen.old }
 {
-    match answer {
-        Answer::Look1(held, _) => *held,
-        _ => seen,
+    if let Answer::Look1(held, _) = answer {
+        *seen = *held;
     }
 }
 
@@ -171,7 +171,7 @@ impl Seat {
         ensures seat { (p : Set) (h : List Event) → SeatIs self.old p (Some h) → MayBeHanded p h answer.now → SeatIs self.new p (Some (event p h answer.now ∷ h)) }
         ensures answer { (p : Set) (h : List Event) → SeatIs self.old p (Some h) → MayBeHanded p h answer.now → result ≡ item_answer p (event p h answer.now ∷ h) }
     {
-        self.seen = seen_after(answer, self.seen);
+        see(&mut self.seen, answer);
         self.has_read = read_after(answer, self.has_read);
         self.job.take(answer)
     }

@@ -8,32 +8,22 @@ ghost use Rattle.xrf_trace.specs.declared.entry.Entry.{Entry as Made};
 ghost use Rattle.xrf_trace.specs.Words.{reserve_is_free};
 ghost use Rattle.xrf_world.specs.Making.{MakesAt, IsMade};
 ghost use Rattle.xrf_world.specs.Standing.{StandsAt, Goes};
-ghost use Rattle.xrf_world.specs.Wants.{wanted};
 
 use crate::making::make_act;
 use crate::middle::Middle;
 use crate::place::Place;
 use crate::reading::block_answer;
 use crate::refused::fail_refused;
-use crate::wants::{is_signal, may_make, while_left};
+use crate::wants::{is_signal, may_make};
 use xrf_base::Site;
 use xrf_history::{Answer, Want};
 use xrf_setup::Landing;
 use xrf_trace::{Land, Refused};
 
-/// What is wanted of a site.
-pub(crate) fn wanted(middle: &Middle, place: &Place, site: Site) -> Want
-    requires { (t : List Made) × StandsAt middle.now place.now t site × Goes middle.now.scenario t }
-    ensures { (t : List Made) → StandsAt middle.now place.now t site → result ≡ wanted middle.now.scenario t site }
-{
-    let taken = place.kept.items.answers.len();
-    while_left(place.seat.want(), taken < middle.scenario.work(site).len())
-}
-
 // a block of the log is read
-fn make_block_read(middle: &mut Middle, place: &mut Place, site: Site, block: u32, land: Land)
-    requires { (t : List Made) × (c : Choice) × StandsAt middle.old place.old t site × IsMade middle.old.scenario t site (wants.LogRead block) land c }
-    ensures { (t : List Made) (c : Choice) → StandsAt middle.old place.old t site → IsMade middle.old.scenario t site (wants.LogRead block) land c
+fn make_block_read(middle: &mut Middle, place: &mut Place, site: Site, block: u32, land: &Land)
+    requires { (t : List Made) × (c : Choice) × StandsAt middle.old place.old t site × IsMade middle.old.scenario t site (wants.LogRead block) land.now c }
+    ensures { (t : List Made) (c : Choice) → StandsAt middle.old place.old t site → IsMade middle.old.scenario t site (wants.LogRead block) land.now c
         → MakesAt middle.old place.old t site c (Ok tt) middle.new place.new }
 {
     let mut bytes = [0; 4096];
@@ -42,9 +32,9 @@ fn make_block_read(middle: &mut Middle, place: &mut Place, site: Site, block: u3
 }
 
 // the next act, in full or as a signal that is lost
-fn make_next(middle: &mut Middle, place: &mut Place, site: Site, want: &Want, land: Land)
-    requires { (t : List Made) × (c : Choice) × StandsAt middle.old place.old t site × IsMade middle.old.scenario t site want.now land c }
-    ensures { (t : List Made) (c : Choice) → StandsAt middle.old place.old t site → IsMade middle.old.scenario t site want.now land c
+fn make_next(middle: &mut Middle, place: &mut Place, site: Site, want: &Want, land: &Land)
+    requires { (t : List Made) × (c : Choice) × StandsAt middle.old place.old t site × IsMade middle.old.scenario t site want.now land.now c }
+    ensures { (t : List Made) (c : Choice) → StandsAt middle.old place.old t site → IsMade middle.old.scenario t site want.now land.now c
         → MakesAt middle.old place.old t site c (Ok tt) middle.new place.new }
 {
     match want {
@@ -54,6 +44,25 @@ fn make_next(middle: &mut Middle, place: &mut Place, site: Site, want: &Want, la
             make_act(middle, place, site, want, land, &answer);
         }
     }
+}
+
+// STEP where a job is there
+fn step_of_job(
+    middle: &mut Middle,
+    place: &mut Place,
+    site: Site,
+    is_free: bool,
+) -> Result<(), Refused>
+    requires { (t : List Made) × StandsAt middle.old place.old t site × Goes middle.old.scenario t × (is_free ≡ reserve_is_free t) }
+    ensures { (t : List Made) → StandsAt middle.old place.old t site → Goes middle.old.scenario t → is_free ≡ reserve_is_free t
+        → MakesAt middle.old place.old t site (choice.Step site) result middle.new place.new }
+{
+    let want = place.seat.want();
+    if !may_make(is_free, place.has_left(&middle.scenario, site), &want) {
+        return Err(Refused::NotEnabled);
+    }
+    make_next(middle, place, site, &want, &Land::Full);
+    Ok(())
 }
 
 /// STEP, the reserve being free or not.
@@ -67,12 +76,10 @@ pub(crate) fn step(
     ensures { (t : List Made) → StandsAt middle.old place.old t site → Goes middle.old.scenario t → is_free ≡ reserve_is_free t
         → MakesAt middle.old place.old t site (choice.Step site) result middle.new place.new }
 {
-    let want = wanted(middle, place, site);
-    if !may_make(is_free, &want) {
+    if !place.seat.has_job() {
         return Err(Refused::NotEnabled);
     }
-    make_next(middle, place, site, &want, Land::Full);
-    Ok(())
+    step_of_job(middle, place, site, is_free)
 }
 
 /// LOSE.
@@ -81,11 +88,11 @@ pub(crate) fn lose(middle: &mut Middle, place: &mut Place, site: Site) -> Result
     ensures { (t : List Made) → StandsAt middle.old place.old t site → Goes middle.old.scenario t
         → MakesAt middle.old place.old t site (choice.Lose site) result middle.new place.new }
 {
-    let want = wanted(middle, place, site);
+    let want = place.seat.want();
     if !is_signal(&want) {
         return Err(Refused::NotEnabled);
     }
-    make_next(middle, place, site, &want, Land::Lost);
+    make_next(middle, place, site, &want, &Land::Lost);
     Ok(())
 }
 
@@ -100,7 +107,7 @@ pub(crate) fn fail(
     ensures { (t : List Made) → StandsAt middle.old place.old t site → Goes middle.old.scenario t
         → MakesAt middle.old place.old t site (choice.Fail site cut.now) result middle.new place.new }
 {
-    let want = wanted(middle, place, site);
+    let want = place.seat.want();
     match fail_refused(cut, &want) {
         Some(reason) => Err(reason),
         None => {
@@ -110,7 +117,7 @@ pub(crate) fn fail(
                 place,
                 site,
                 &want,
-                Land::Fail(*cut),
+                &Land::Fail(*cut),
                 &Answer::Failed(at),
             );
             Ok(())

@@ -10,7 +10,6 @@ use crate::making::{inc_of_want, who_at};
 use crate::middle::Middle;
 use crate::place::Place;
 use crate::refused::stop_refused;
-use crate::steps::wanted;
 use crate::wants::{act_of_want, is_write};
 use xrf_base::Site;
 use xrf_history::Want;
@@ -21,7 +20,7 @@ fn cut_of_want(want: &Want) -> Act
     ensures { result ≡ cut_of_want want.now }
 {
     if is_write(want) {
-        act_of_want(0, None, want)
+        act_of_want(want)
     } else {
         Act::NoAct
     }
@@ -56,7 +55,7 @@ pub(crate) fn stop(
     ensures { (t : List Made) → StandsAt middle.old place.old t site → Goes middle.old.scenario t
         → MakesAt middle.old place.old t site (choice.Stop site cut.now) result middle.new place.new }
 {
-    let want = wanted(middle, place, site);
+    let want = place.seat.want();
     match stop_refused(cut, place.seat.has_job(), &want) {
         Some(reason) => Err(reason),
         None => {

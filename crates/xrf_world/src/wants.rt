@@ -1,31 +1,21 @@
 //! What kind of act a want is.
 
-ghost use Rattle.std.specs.Prelude.{◌≡◌};
+ghost use Rattle.std.specs.Prelude.{◌≡◌, None};
 ghost use Rattle.xrf_history.specs.Answers.{may_fail};
-ghost use Rattle.xrf_world.specs.Wants.{while_left, may_make, is_signal, torn_size, is_write, decide_act, act_of_want};
+ghost use Rattle.xrf_world.specs.Wants.{while_left, may_make, is_signal, torn_size, is_write, act_of_want};
 
-use xrf_cavm::Decided;
 use xrf_history::Want;
 use xrf_trace::Act;
 
-/// What is wanted while an item is left or not.
-pub(crate) fn while_left(want: Want, is_left: bool) -> Want
-    ensures { result ≡ while_left want is_left }
-{
-    match want {
-        Want::Item => { if is_left { Want::Item } else { Want::Nothing } }
-        other => other,
-    }
-}
-
-/// Whether it is an act that may be made, the reserve being free or not.
-pub(crate) fn may_make(is_free: bool, want: &Want) -> bool
-    ensures { result ≡ may_make is_free want.now }
+/// Whether it is an act that may be made, the reserve being free or not and an item being left or not.
+pub(crate) fn may_make(is_free: bool, is_left: bool, want: &Want) -> bool
+    ensures { result ≡ may_make is_free (while_left want.now is_left) }
 {
     match want {
         Want::Nothing => false,
         Want::Exit(_) => false,
         Want::Reserve => is_free,
+        Want::Item => is_left,
         _ => true,
     }
 }
@@ -87,18 +77,9 @@ pub(crate) fn may_fail(want: &Want) -> bool
     }
 }
 
-fn decide_act(decided: Option<Decided>) -> Act
-    ensures { result ≡ decide_act decided }
-{
-    match decided {
-        Some(decision) => Act::Decide(decision),
-        None => Act::NoAct,
-    }
-}
-
-/// The act that it is. An ITEM takes the item of this number, and a DECIDE has the decision that the job has made.
-pub(crate) fn act_of_want(number: u32, decided: Option<Decided>, want: &Want) -> Act
-    ensures { result ≡ act_of_want number decided want.now }
+/// The act that it is. An ITEM has no number yet, and a DECIDE no decision.
+pub(crate) fn act_of_want(want: &Want) -> Act
+    ensures { result ≡ act_of_want 0 None want.now }
 {
     match *want {
         Want::Nothing => Act::NoAct,
@@ -111,7 +92,7 @@ pub(crate) fn act_of_want(number: u32, decided: Option<Decided>, want: &Want) ->
         Want::Signal2(signal) => Act::Signal2(signal),
         Want::Look1 => Act::Look1,
         Want::Look2 => Act::Look2,
-        Want::Decide => decide_act(decided),
+        Want::Decide => Act::NoAct,
         Want::MsgRead(k) => Act::MsgRead(k),
         Want::MsgClose(k) => Act::MsgClose(k),
         Want::MsgBody(k, message) => Act::MsgBody(k, message),
@@ -128,7 +109,7 @@ pub(crate) fn act_of_want(number: u32, decided: Option<Decided>, want: &Want) ->
         Want::FileRead(k) => Act::FileRead(k),
         Want::FileWrite(unit, k, value) => Act::FileWrite(unit, k, value),
         Want::Undo(k, before) => Act::Undo(k, before),
-        Want::Item => Act::Item(number),
+        Want::Item => Act::Item(0),
         Want::Clt(line) => Act::Clt(line),
         Want::Restarted => Act::Restarted,
         Want::Ended(why) => Act::Ended(why),

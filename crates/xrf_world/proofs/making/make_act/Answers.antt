@@ -1,6 +1,5 @@
-use Rattle.std.proofs.Common.{◌≡◌, ◌∙◌, ◌+◌, ◌∷◌, ℕ, List, Option, Some, ap, arith, subst, sym}
+use Rattle.std.proofs.Common.{◌≡◌, ◌∙◌, ◌+◌, ◌∷◌, ℕ, List, Option, Some, ap, subst, sym}
 use Rattle.xrf_base.specs.declared.items.ItemAnswer.{ItemAnswer}
-use Rattle.xrf_cavm.specs.declared.decisions.Decided.{Decided}
 use Rattle.xrf_history.specs.Answers.{event}
 use Rattle.xrf_history.specs.Events.{Event}
 use Rattle.xrf_history.specs.Holding.{number}
@@ -13,27 +12,11 @@ use Rattle.xrf_world.specs.Wants.{act_of_want}
 use Rattle.xrf_world.proofs.MadeLaws.{entry_of, entry-same, followed, work-few}
 use Rattle.xrf_world.proofs.making.make_act.Goals as goal
 
-pub overflow_cast-number : goal.overflow_cast-number
-overflow_cast-number c =
-    omega (
-      arith,
-      c.len.ensures,
-      c.args.place.now.kept.items.answers.ok.0,
-      c.requires.1.place.kept.items.taken,
-      c.requires.1.place.kept.items.few,
-      work-few c.args.middle.now.scenario c.args.site c.requires.2.scen,
-    )
-
-pub overflow_add-number : goal.overflow_add-number
-overflow_add-number c =
-    omega (
-      arith,
-      c.len.ensures,
-      c.args.place.now.kept.items.answers.ok.0,
-      c.requires.1.place.kept.items.taken,
-      c.requires.1.place.kept.items.few,
-      work-few c.args.middle.now.scenario c.args.site c.requires.2.scen,
-    )
+pub next-number-requires : goal.next-number-requires
+next-number-requires c =
+    let s = c.args.middle.now.scenario in
+    let x = c.args.site in
+    (s, c.requires.0, x, c.requires.1.place.kept.items, work-few s x c.requires.2.scen)
 
 pub returns-clause-made : goal.returns-clause-made
 returns-clause-made c = λ t m stands.
@@ -45,21 +28,18 @@ returns-clause-made c = λ t m stands.
     let there : SeatIs c.args.place.now.seat p (Some m.job) =
     subst (λ (job : Option (List Event)). SeatIs c.args.place.now.seat p job) m.there stands.place.seat in
     let handed : SeatIs c.take-given.new.self p (Some h) = c.take-given.ensures.seat p m.job there m.handed in
-    let count : c.len.result + 1 ≡ items_taken t x + 1 =
-    omega (arith, c.len.ensures, c.args.place.now.kept.items.answers.ok.0, stands.place.kept.items.taken) in
     let incs : c.inc_of_want-inc.result ≡ inc_of_want w (number m.job) =
     c.inc_of_want-inc.ensures ∙ ap (inc_of_want w) (c.inc.ensures p (Some m.job) there) in
-    let acts : c.act_of_want-act.result ≡ act_of_want (items_taken t x + 1) (last_decision h) w =
-    c.act_of_want-act.ensures
-    ∙ ap (λ (n : ℕ). act_of_want n c.decided.result w) count
-    ∙ ap (λ (d : Option Decided). act_of_want (items_taken t x + 1) d w) (c.decided.ensures p (Some h) handed) in
-    let same : entry_of c.args.middle.now.counts.tick c.who_at.result c.inc_of_want-inc.result c.act_of_want-act.result c.args.land ≡ m.entry =
+    let acts : c.act_of-act.result ≡ act_of_want (items_taken t x + 1) (last_decision h) w =
+    c.act_of-act.ensures p h handed
+    ∙ ap (λ (n : ℕ). act_of_want n (last_decision h) w) (c.next-number.ensures s t x stands.place.kept.items) in
+    let same : entry_of c.args.middle.now.counts.tick c.who_at.result c.inc_of_want-inc.result c.act_of-act.result c.args.land.now ≡ m.entry =
     entry-same c.args.middle.now.counts.tick (now t) c.who_at.result (who_at x) c.inc_of_want-inc.result (inc_of_want w (number m.job))
-    c.act_of_want-act.result (act_of_want (items_taken t x + 1) (last_decision h) w) c.args.land stands.middle.counts.tick c.who_at.ensures incs acts
+    c.act_of-act.result (act_of_want (items_taken t x + 1) (last_decision h) w) c.args.land.now stands.middle.counts.tick c.who_at.ensures incs acts
     ∙ m.is_entry in
     let records : CanRecord s t x m.entry c.take-given.result =
     subst (λ (given : Option ItemAnswer). CanRecord s t x m.entry given) (sym (c.take-given.ensures.answer p m.job there m.handed)) m.records in
     followed c.args.middle.now c.follow.new.self c.vacate_if_ended.new.seat c.follow-2.new.self t x
-    (entry_of c.args.middle.now.counts.tick c.who_at.result c.inc_of_want-inc.result c.act_of_want-act.result c.args.land) m.entry c.take-given.result
+    (entry_of c.args.middle.now.counts.tick c.who_at.result c.inc_of_want-inc.result c.act_of-act.result c.args.land.now) m.entry c.take-given.result
     (after_want w h) same c.follow.ensures.scenario records m.after (c.vacate_if_ended.ensures p h handed) (c.follow.ensures.stands t stands.middle)
     (c.follow-2.ensures s t x stands.place.kept)

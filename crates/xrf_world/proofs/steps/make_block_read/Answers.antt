@@ -20,7 +20,7 @@ make_act-requires c =
     subst (λ (job : Option (List Event)). IfSome job (λ h. c.args.place.now.seat.has_read ≡ has_read_block h)) made.there stands.place.seat.has_read in (
       t,
       stands,
-      subst (λ (a : Answer). MayMake s t x (want.LogRead b) c.args.land a)
+      subst (λ (a : Answer). MayMake s t x (want.LogRead b) c.args.land.now a)
           (sym (c.block_answer-answer.ensures s t stands.middle.data_sets ∙ ap (block_answer s t b) read)) made.may,
     )
 
@@ -31,7 +31,7 @@ returns c = λ t chosen stands made.
     let s = old.scenario in
     let x = c.args.site in
     let b = c.args.block in
-    let l = c.args.land in
+    let l = c.args.land.now in
     let new = c.make_act.new.middle in
     let after = c.make_act.new.place in
     let read : place.seat.has_read ≡ has_read_block made.job =

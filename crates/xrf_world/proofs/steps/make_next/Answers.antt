@@ -10,7 +10,7 @@ returns-in_default c = λ t chosen stands made.
     let place = c.args.place.now in
     let x = c.args.site in
     let w = c.args.want.now in
-    let l = c.args.land in
+    let l = c.args.land.now in
     let new = c.make_act.new.middle in
     let after = c.make_act.new.place in
     act-made old place t x chosen new after w l (answer_of old.scenario t x made.job w)

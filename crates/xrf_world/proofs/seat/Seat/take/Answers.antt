@@ -9,6 +9,6 @@ returns-clause-seat c = λ p h seat may.
     record {
       settings = seat.settings;
       job = c.take.ensures.stands p h seat.job may;
-      seen = c.seen_after-self.ensures ∙ ap (seen_after a) seat.seen ∙ sym (event_sees p h a);
+      seen = c.see.ensures ∙ ap (seen_after a) seat.seen ∙ sym (event_sees p h a);
       has_read = c.read_after-self.ensures ∙ ap (read_after a) seat.has_read ∙ sym (event_reads p h a);
     }

@@ -2,15 +2,18 @@
 use Rattle.std.proofs.Common.{◌≡◌, ◌<◌, ◌+◌, ℕ, Bool, true, false, List, [], ◌∷◌, ◌++◌, length, Option, Some, None, unwrap_or, Result, Ok, Err, refl, sym, ◌∙◌, ap, subst, add-one, arith}
 use Rattle.rand_pcg.specs.Lcg.{Lcg}
 use Rattle.rand_pcg.specs.Pcg.{pcg32}
+use Rattle.xrf_base.specs.declared.site.Site.{Site}
+use Rattle.xrf_base.specs.declared.site.Site.TheVariants as site
 use Rattle.xrf_setup.specs.declared.choice.Choice.{Choice}
+use Rattle.xrf_setup.specs.declared.choice.Choice.TheVariants as choice
 use Rattle.xrf_trace.specs.declared.entry.Entry.{Entry}
 use Rattle.xrf_trace.specs.declared.entry.Refused.{Refused}
 use Rattle.xrf_trace.specs.Runs.{outcome, Refusal, run, run_from}
-use Rattle.xrf_trace.specs.Scenario.{Scen}
+use Rattle.xrf_trace.specs.Scenario.{Scen, other}
 use Rattle.xrf_world.specs.Runs.{Run, Made, Applied}
 use Rattle.xrf_drive.specs.Drawn.{Turns, trace_with, turned, turns_of, with_choice}
 use Rattle.xrf_drive.specs.Tries.{DrivesTo, Tried}
-use Rattle.xrf_drive.specs.Turns.{first_of, turn}
+use Rattle.xrf_drive.specs.Turns.{choice_or, exit_of_any, first_of, in_its_place, step_at, step_of_any, turn}
 
 -- where a choice was not there, another is tried on the same run
 pub or_other : (old before new : Run) (a : Option Choice) (b : Run → Option Choice) (made made_then : Bool) → Tried old a made before → made ≡ false
@@ -32,6 +35,46 @@ in_place old before new None made other tried not_made applied = subst (λ (r : 
 pub is_made : (old new : Run) (c : Option Choice) (made : Bool) (other : Choice) → Tried old c made new → made ≡ true → Applied old (unwrap_or c other) (Ok tt) new
 is_made old new (Some c) made other tried is = tried.1
 is_made old new None made other tried is = absurd (let no = tried.0 in cc)
+
+-- the first of two choices, or else a third
+or-first : (a b : Option Choice) (c : Choice) → unwrap_or a (unwrap_or b c) ≡ unwrap_or (first_of a b) c
+or-first (Some d) b c = refl
+or-first None b c = refl
+
+-- where no STEP of a site is there, the STEP of any is that of the other
+first-none : (a b : Option Choice) → a ≡ None → b ≡ first_of a b
+first-none None b none = refl
+first-none (Some c) b none = absurd (cc)
+
+none-first : (a b : Option Choice) → b ≡ None → a ≡ first_of a b
+none-first (Some c) b none = refl
+none-first None b none = sym none
+
+other-step : (s : Scen) (t : List Entry) (x : Site) → step_at s t x ≡ None → step_at s t (other x) ≡ step_of_any s t
+other-step s t site.A none = first-none (step_at s t site.A) (step_at s t site.B) none
+other-step s t site.B none = none-first (step_at s t site.A) (step_at s t site.B) none
+
+-- what takes the place of a STEP of a site that was refused
+abbrev pub without_step : Site → Run → Choice
+without_step x r = unwrap_or (exit_of_any r.scenario r.trace) (unwrap_or (step_at r.scenario r.trace (other x)) choice.Tick)
+
+its-place : (s : Scen) (t : List Entry) (x : Site) → step_at s t x ≡ None
+    → without_step x (record { scenario = s; trace = t }) ≡ choice_or s t (Some (choice.Step x))
+its-place s t x none =
+    or-first (exit_of_any s t) (step_at s t (other x)) choice.Tick
+    ∙ ap (λ (b : Option Choice). unwrap_or (first_of (exit_of_any s t) b) choice.Tick) (other-step s t x none)
+    ∙ ap (λ (c : Option Choice). unwrap_or c (in_its_place s t)) (sym none)
+
+not-made : (old new : Run) (c : Option Choice) (made : Bool) → Tried old c made new → made ≡ false → (c ≡ None) × (new ≡ old)
+not-made old new (Some c) made tried not_made = absurd (let is = tried.0 in cc)
+not-made old new None made tried not_made = (refl, tried.1)
+
+pub step_refused : (old before new : Run) (x : Site) (made : Bool) → Tried old (step_at old.scenario old.trace x) made before → made ≡ false
+    → Applied before (without_step x before) (Ok tt) new → Applied old (choice_or old.scenario old.trace (Some (choice.Step x))) (Ok tt) new
+step_refused old before new x made tried not_made applied =
+    let refused = not-made old before (step_at old.scenario old.trace x) made tried not_made in
+    subst (λ (c : Choice). Applied old c (Ok tt) new) (its-place old.scenario old.trace x refused.0)
+    (subst (λ (r : Run). Applied r (without_step x r) (Ok tt) new) refused.1 applied)
 
 -- the run of one choice more
 abbrev goes_on : Scen → List Entry → ℕ → List Choice → Result Entry Refused → Result (List Entry) Refusal

@@ -1,9 +1,10 @@
 //! One turn of the generated run: the choice that a word draws, or what is made in its place.
 
-ghost use Rattle.std.specs.Prelude.{◌≡◌, ◌<◌, ◌%◌, Bool, true, false, is_some, length, Some, None, Ok};
+ghost use Rattle.std.specs.Prelude.{◌≡◌, ◌<◌, ◌≤◌, ◌%◌, Bool, true, false, is_some, length, Some, None, Ok};
 ghost use Rattle.xrf_setup.specs.declared.choice.Choice.TheVariants as choice;
 ghost use Rattle.xrf_drive.specs.Turns.{choice_or, drawn_choice, exit_answer, exit_at, exit_of_any, exit_or_step, if_enabled, in_its_place, least_confirmable, step_at, step_of_any, turn};
 ghost use Rattle.xrf_drive.specs.Tries.{Tried};
+ghost use Rattle.xrf_trace.specs.Scenario.{other};
 ghost use Rattle.xrf_world.specs.Report.{IsLeast, may_be_confirmed};
 ghost use Rattle.xrf_world.specs.Runs.{Applied};
 
@@ -19,14 +20,12 @@ fn least_confirmable(world: &World) -> Option<Inc>
     world.least_confirmable()
 }
 
-// the choice that a byte draws
+// the choice that a byte draws which draws no STEP
 fn drawn(world: &World, byte: u8) -> Option<Choice>
+    requires { 240 ≤ byte }
     ensures { result ≡ drawn_choice (least_confirmable world.now.scenario world.now.trace) byte }
 {
     match byte {
-        0..=119 => Some(Choice::Step(Site::A)),
-        120..=239 => Some(Choice::Step(Site::B)),
-        240..=243 => Some(Choice::Tick),
         244 => Some(Choice::Lose(Site::A)),
         245 => Some(Choice::Lose(Site::B)),
         246 => Some(Choice::Stop(Site::A, Landing::Nothing)),
@@ -36,17 +35,25 @@ fn drawn(world: &World, byte: u8) -> Option<Choice>
         250 | 251 => least_confirmable(world).map(Choice::Confirm),
         252 => Some(Choice::StartStandby(Site::A)),
         253 => Some(Choice::StartActive(Site::B)),
-        254 | 255 => Some(Choice::Tick),
+        _ => Some(Choice::Tick),
     }
 }
 
-// makes a choice where there is one and it is enabled
-fn make(world: &mut World, drawn: Option<Choice>) -> bool
+// makes a choice where it is enabled
+fn make(world: &mut World, choice: &Choice) -> bool
     requires room { length world.old.trace < CHOICES_MOST }
-    ensures { Tried world.old (if_enabled world.old.scenario world.old.trace drawn) result world.new }
+    ensures { Tried world.old (if_enabled world.old.scenario world.old.trace (Some choice.now)) result world.new }
+{
+    world.apply(choice).is_ok()
+}
+
+// makes what is drawn where it is there and enabled
+fn make_drawn(world: &mut World, drawn: &Option<Choice>) -> bool
+    requires room { length world.old.trace < CHOICES_MOST }
+    ensures { Tried world.old (if_enabled world.old.scenario world.old.trace drawn.now) result world.new }
 {
     match drawn {
-        Some(choice) => world.apply(&choice).is_ok(),
+        Some(choice) => make(world, choice),
         None => false,
     }
 }
@@ -79,7 +86,7 @@ fn step(world: &mut World, site: Site) -> bool
     requires room { length world.old.trace < CHOICES_MOST }
     ensures { Tried world.old (step_at world.old.scenario world.old.trace site) result world.new }
 {
-    make(world, Some(Choice::Step(site)))
+    make(world, &Choice::Step(site))
 }
 
 fn tick(world: &mut World)
@@ -134,14 +141,42 @@ fn make_in_its_place(world: &mut World)
 }
 
 // what is drawn, where it is there and enabled, else what takes its place
-fn make_or(world: &mut World, drawn: Option<Choice>)
+fn make_or(world: &mut World, drawn: &Option<Choice>)
     requires room { length world.old.trace < CHOICES_MOST }
-    ensures { Applied world.old (choice_or world.old.scenario world.old.trace drawn) (Ok tt) world.new }
+    ensures { Applied world.old (choice_or world.old.scenario world.old.trace drawn.now) (Ok tt) world.new }
 {
-    if make(world, drawn) {
+    if make_drawn(world, drawn) {
         return;
     }
     make_in_its_place(world);
+}
+
+// STEP of the site that is not this one, where it is enabled
+fn step_of_other(world: &mut World, site: Site) -> bool
+    requires room { length world.old.trace < CHOICES_MOST }
+    ensures { Tried world.old (step_at world.old.scenario world.old.trace (other site)) result world.new }
+{
+    match site {
+        Site::A => step(world, Site::B),
+        Site::B => step(world, Site::A),
+    }
+}
+
+// STEP of a site that is drawn, where it is enabled, else what takes its place: the STEP that was refused is not asked again
+fn step_or(world: &mut World, site: Site)
+    requires room { length world.old.trace < CHOICES_MOST }
+    ensures { Applied world.old (choice_or world.old.scenario world.old.trace (Some (choice.Step site))) (Ok tt) world.new }
+{
+    if step(world, site) {
+        return;
+    }
+    if exit_of_any(world) {
+        return;
+    }
+    if step_of_other(world, site) {
+        return;
+    }
+    tick(world);
 }
 
 /// Makes the choice that the lowest byte of a word draws, or what takes its place: one entry is added.
@@ -149,6 +184,12 @@ pub(crate) fn turn(world: &mut World, word: u32)
     requires room { length world.old.trace < CHOICES_MOST }
     ensures { Applied world.old (turn world.old.scenario world.old.trace word) (Ok tt) world.new }
 {
-    let choice = drawn(world, (word % 256) as u8);
-    make_or(world, choice);
+    match (word % 256) as u8 {
+        0..=119 => step_or(world, Site::A),
+        120..=239 => step_or(world, Site::B),
+        byte => {
+            let drawn = drawn(world, byte);
+            make_or(world, &drawn);
+        }
+    }
 }

@@ -1,6 +1,7 @@
 //! What an act is answered, read off the data sets.
 
-ghost use Rattle.std.specs.Prelude.{◌≡◌, ◌+◌, ◌*◌, ◌≤◌, false, List, Some, slice_get};
+ghost use Rattle.std.specs.Prelude.{◌≡◌, ◌+◌, ◌*◌, ◌≤◌, true, false, List, Some, slice_get};
+ghost use Rattle.xrf_base.specs.declared.site.Site.{Site as Of};
 ghost use Rattle.xrf_devices.specs.Standing.{StandsFor};
 ghost use Rattle.xrf_history.specs.declared.answer.Answer.{Answer as An};
 ghost use Rattle.xrf_history.specs.Events.{Event};
@@ -9,6 +10,7 @@ ghost use Rattle.xrf_trace.specs.declared.entry.Entry.{Entry as Made};
 ghost use Rattle.xrf_trace.specs.Handing.{answer_of, block_answer, item_handed};
 ghost use Rattle.xrf_trace.specs.Jobs.{hist, known_of};
 ghost use Rattle.xrf_trace.specs.Scenario.{Scen, other};
+ghost use Rattle.xrf_trace.specs.Words.{now};
 ghost use Rattle.xrf_world.specs.Making.{MayRead};
 ghost use Rattle.xrf_world.specs.Standing.{MiddleIs, StandsAt};
 ghost use Rattle.xrf_world.specs.Wants.{reads_block};
@@ -41,6 +43,25 @@ fn item_at(items: &[Item], place: usize) -> Option<Item>
     ensures { result ≡ slice_get items.now place }
 {
     items.get(place).copied()
+}
+
+/// Whether a job is told of an act that it wants nothing but that it is done.
+pub(crate) fn is_only_done(want: &Want) -> bool
+    ensures { result ≡ true → (s : Scen) (t : List Made) (x : Of) (h : List Event) → answer_of s t x h want.now ≡ An.Done (now t) }
+{
+    match want {
+        Want::CtlRead => false,
+        Want::Look1 => false,
+        Want::Look2 => false,
+        Want::Decide => false,
+        Want::MsgRead(_) => false,
+        Want::LogRead(_) => false,
+        Want::LogLook(_) => false,
+        Want::KpRead(_) => false,
+        Want::FileRead(_) => false,
+        Want::Item => false,
+        _ => true,
+    }
 }
 
 /// What a job is answered for the read of a block of the log, of which a copy is made here. The first block of a restart

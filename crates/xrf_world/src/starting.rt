@@ -1,29 +1,39 @@
 //! START: a job is started at a site.
 
-ghost use Rattle.std.specs.Prelude.{◌≡◌, List};
+ghost use Rattle.std.specs.Prelude.{[], ◌∷◌, List, Some, Ok};
+ghost use Rattle.xrf_history.specs.Events.{Event};
+ghost use Rattle.xrf_setup.specs.declared.choice.Choice.{Choice as Chosen};
 ghost use Rattle.xrf_setup.specs.declared.choice.Choice.TheVariants as choice;
 ghost use Rattle.xrf_trace.specs.declared.entry.Entry.{Entry as Made};
-ghost use Rattle.xrf_trace.specs.Entries.{start_at};
-ghost use Rattle.xrf_trace.specs.Words.{now};
-ghost use Rattle.xrf_world.specs.Making.{MakesAt};
-ghost use Rattle.xrf_world.specs.Standing.{StandsAt, Goes};
+ghost use Rattle.xrf_trace.specs.Scenario.{settings};
+ghost use Rattle.xrf_world.specs.Making.{MakesAt, IsStarted};
+ghost use Rattle.xrf_world.specs.Places.{KeptIs};
+ghost use Rattle.xrf_world.specs.Seats.{SeatIs};
+ghost use Rattle.xrf_world.specs.Standing.{StandsAt, MiddleIs, Goes};
 
 use crate::making::who_at;
 use crate::middle::Middle;
 use crate::place::Place;
-use xrf_base::{Site, Tick};
+use xrf_base::Site;
 use xrf_trace::{Act, Entry, Land, Refused};
 
-fn start_entry(tick: Tick, site: Site, act: Act) -> Entry
-    ensures { (t : List Made) → tick ≡ now t → result ≡ start_at t site act }
+// a job that was started at a site, by an act: its entry is added
+fn add_start(middle: &mut Middle, place: &mut Place, site: Site, act: Act)
+    requires { (t : List Made) × (made : Event) × (c : Chosen) × IsStarted middle.old.scenario t site act made c × MiddleIs middle.old t
+        × KeptIs place.old.kept middle.old.scenario t site }
+    ensures { (t : List Made) (made : Event) (c : Chosen) → IsStarted middle.old.scenario t site act made c → MiddleIs middle.old t
+        → KeptIs place.old.kept middle.old.scenario t site → SeatIs place.old.seat (settings middle.old.scenario site) (Some (made ∷ []))
+        → MakesAt middle.old place.old t site c (Ok tt) middle.new place.new }
 {
-    Entry {
-        tick,
+    let entry = Entry {
+        tick: middle.counts.tick,
         who: who_at(site),
         inc: 0,
         act,
         land: Land::Full,
-    }
+    };
+    middle.follow(&entry);
+    place.kept.follow(&entry, None);
 }
 
 /// START ACTIVE.
@@ -39,10 +49,8 @@ pub(crate) fn start_active(
     if place.seat.has_job() {
         return Err(Refused::NotEnabled);
     }
-    let entry = start_entry(middle.counts.tick, site, Act::StartActive);
     place.seat.start_active();
-    middle.follow(&entry);
-    place.kept.follow(&entry, None);
+    add_start(middle, place, site, Act::StartActive);
     Ok(())
 }
 
@@ -59,9 +67,7 @@ pub(crate) fn start_standby(
     if place.seat.has_job() {
         return Err(Refused::NotEnabled);
     }
-    let entry = start_entry(middle.counts.tick, site, Act::StartStandby);
     place.seat.start_standby();
-    middle.follow(&entry);
-    place.kept.follow(&entry, None);
+    add_start(middle, place, site, Act::StartStandby);
     Ok(())
 }

@@ -1,18 +1,22 @@
 //! STEP, LOSE and FAIL: a job makes its next act, in full, with a signal that is lost, or with a device that fails.
 
-ghost use Rattle.std.specs.Prelude.{◌≡◌, List, Ok};
+ghost use Rattle.std.specs.Prelude.{◌≡◌, false, List, Ok};
+ghost use Rattle.xrf_history.specs.declared.answer.Answer.TheVariants as answers;
 ghost use Rattle.xrf_history.specs.declared.want.Want.TheVariants as wants;
+ghost use Rattle.xrf_history.specs.Events.{Event};
 ghost use Rattle.xrf_setup.specs.declared.choice.Choice.{Choice};
 ghost use Rattle.xrf_setup.specs.declared.choice.Choice.TheVariants as choice;
 ghost use Rattle.xrf_trace.specs.declared.entry.Entry.{Entry as Made};
-ghost use Rattle.xrf_trace.specs.Words.{reserve_is_free};
+ghost use Rattle.xrf_trace.specs.Handing.{answer_of};
+ghost use Rattle.xrf_trace.specs.Words.{now, reserve_is_free};
 ghost use Rattle.xrf_world.specs.Making.{MakesAt, IsMade};
 ghost use Rattle.xrf_world.specs.Standing.{StandsAt, Goes};
+ghost use Rattle.xrf_world.specs.Wants.{reads_block};
 
 use crate::making::make_act;
 use crate::middle::Middle;
 use crate::place::Place;
-use crate::reading::block_answer;
+use crate::reading::{block_answer, is_only_done};
 use crate::refused::fail_refused;
 use crate::wants::{is_signal, may_make};
 use xrf_base::Site;
@@ -31,18 +35,40 @@ fn make_block_read(middle: &mut Middle, place: &mut Place, site: Site, block: u3
     make_act(middle, place, site, &Want::LogRead(block), land, &answer);
 }
 
+// an act is made of which its job is told that it is done
+fn make_done(middle: &mut Middle, place: &mut Place, site: Site, want: &Want, land: &Land)
+    requires { (t : List Made) × (c : Choice) × StandsAt middle.old place.old t site × IsMade middle.old.scenario t site want.now land.now c
+        × ((h : List Event) → answer_of middle.old.scenario t site h want.now ≡ answers.Done (now t)) }
+    ensures { (t : List Made) (c : Choice) → StandsAt middle.old place.old t site → IsMade middle.old.scenario t site want.now land.now c
+        → ((h : List Event) → answer_of middle.old.scenario t site h want.now ≡ answers.Done (now t)) → MakesAt middle.old place.old t site c (Ok tt) middle.new place.new }
+{
+    let at = middle.counts.tick;
+    make_act(middle, place, site, want, land, &Answer::Done(at));
+}
+
+// an act is made of which its job is told more, and no block of the log
+fn make_told(middle: &mut Middle, place: &mut Place, site: Site, want: &Want, land: &Land)
+    requires small { reads_block want.now ≡ false }
+    requires made { (t : List Made) × (c : Choice) × StandsAt middle.old place.old t site × IsMade middle.old.scenario t site want.now land.now c }
+    ensures { (t : List Made) (c : Choice) → StandsAt middle.old place.old t site → IsMade middle.old.scenario t site want.now land.now c
+        → MakesAt middle.old place.old t site c (Ok tt) middle.new place.new }
+{
+    let answer = middle.answer(place, site, want);
+    make_act(middle, place, site, want, land, &answer);
+}
+
 // the next act, in full or as a signal that is lost
 fn make_next(middle: &mut Middle, place: &mut Place, site: Site, want: &Want, land: &Land)
     requires { (t : List Made) × (c : Choice) × StandsAt middle.old place.old t site × IsMade middle.old.scenario t site want.now land.now c }
     ensures { (t : List Made) (c : Choice) → StandsAt middle.old place.old t site → IsMade middle.old.scenario t site want.now land.now c
         → MakesAt middle.old place.old t site c (Ok tt) middle.new place.new }
 {
+    if is_only_done(want) {
+        return make_done(middle, place, site, want, land);
+    }
     match want {
         Want::LogRead(block) => make_block_read(middle, place, site, *block, land),
-        _ => {
-            let answer = middle.answer(place, site, want);
-            make_act(middle, place, site, want, land, &answer);
-        }
+        _ => make_told(middle, place, site, want, land),
     }
 }
 

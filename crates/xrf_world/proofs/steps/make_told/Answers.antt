@@ -2,10 +2,10 @@ use Rattle.std.proofs.Common.{subst}
 use Rattle.xrf_history.specs.declared.answer.Answer.{Answer}
 use Rattle.xrf_trace.specs.Handing.{answer_of}
 use Rattle.xrf_world.proofs.MadeLaws.{MakesEntry, act-made}
-use Rattle.xrf_world.proofs.steps.make_next.Goals as goal
+use Rattle.xrf_world.proofs.steps.make_told.Goals as goal
 
-pub returns-in_default : goal.returns-in_default
-returns-in_default c = λ t chosen stands made.
+pub returns : goal.returns
+returns c = λ t chosen stands made.
     let old = c.args.middle.now in
     let place = c.args.place.now in
     let x = c.args.site in

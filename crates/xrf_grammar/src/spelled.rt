@@ -99,10 +99,11 @@ fn setting_by_form(format: Format, line_words: &[&[u8]]) -> Option<Line>
 fn setting_spelled(format: Format, line_words: &[&[u8]]) -> Option<Line>
     ensures { IfSome result (λ says. Spells (settings_of format) (texts line_words.now) says) }
 {
-    match read_by_words(format, line_words) {
-        Some(says) => Some(says),
-        None => setting_by_form(format, line_words),
+    let says = read_by_words(format, line_words);
+    if says.is_some() {
+        return says;
     }
+    setting_by_form(format, line_words)
 }
 
 /// What a line before the choices says, where it is found by its first words.

@@ -39,8 +39,8 @@ fn decimal_digit(number: u64) -> u8
     b'0' + number as u8
 }
 
-// up to three digits at once, behind those of the thousands
-#[tactic(auto, using(crate::proofs::NumberLaws::one_digit, crate::proofs::NumberLaws::two_digits, crate::proofs::NumberLaws::three_digits, crate::proofs::NumberLaws::thousands))]
+// up to four digits at once, or three behind those of the thousands
+#[tactic(auto, using(crate::proofs::NumberLaws::one_digit, crate::proofs::NumberLaws::two_digits, crate::proofs::NumberLaws::three_digits, crate::proofs::NumberLaws::four_digits, crate::proofs::NumberLaws::thousands))]
 fn put_digits(out: &mut Vec<u8>, number: u64) -> Result<(), AllocError>
     ensures { OnOk result (out.new.items ≡ out.old.items ++ decimal number) }
 {
@@ -55,8 +55,12 @@ fn put_digits(out: &mut Vec<u8>, number: u64) -> Result<(), AllocError>
     if number < 1000 {
         return put_text(out, &[decimal_digit(number / 100), ten, one]);
     }
+    let hundred = decimal_digit(number / 100 % 10);
+    if number < 10000 {
+        return put_text(out, &[decimal_digit(number / 1000), hundred, ten, one]);
+    }
     put_digits(out, number / 1000)?;
-    put_text(out, &[decimal_digit(number / 100 % 10), ten, one])
+    put_text(out, &[hundred, ten, one])
 }
 
 // a number of one digit, as most are, is written in place

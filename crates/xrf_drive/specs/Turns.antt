@@ -1,5 +1,5 @@
 -- Which choice a turn of the generated run makes.
-use Rattle.std.specs.Prelude.{ℕ, zero, suc, ◌%◌, ◌==◌, nat_lt, Bool, if◌then◌else◌, List, Option, Some, None, option_map, unwrap_or}
+use Rattle.std.specs.Prelude.{ℕ, ◌%◌, ◌==◌, nat_lt, if◌then◌else◌, List, Option, Some, None, option_map, unwrap_or}
 use Rattle.xrf_base.specs.declared.site.Site.{Site}
 use Rattle.xrf_base.specs.declared.site.Site.TheVariants.{A, B}
 use Rattle.xrf_exit.specs.declared.ExitAnswer.{ExitAnswer}
@@ -10,22 +10,8 @@ use Rattle.xrf_setup.specs.declared.choice.Choice.{Choice}
 use Rattle.xrf_setup.specs.declared.choice.Choice.TheVariants as choice
 use Rattle.xrf_setup.specs.declared.choice.Landing.TheVariants.{Nothing}
 use Rattle.xrf_trace.specs.declared.entry.Entry.{Entry}
-use Rattle.xrf_trace.specs.Devices.{control}
 use Rattle.xrf_trace.specs.Scenario.{Scen}
-use Rattle.xrf_world.specs.Report.{is_enabled, may_be_confirmed, notice_at}
-
--- the least number from 1 to a last one of which a test holds, none where it holds of none
-abbrev pub or_if : Option ℕ → Bool → ℕ → Option ℕ
-or_if (Some m) holds n = Some m
-or_if None holds n = if holds then Some n else None
-
-abbrev pub least_to : (ℕ → Bool) → ℕ → Option ℕ
-least_to test zero = None
-least_to test (suc n) = or_if (least_to test n) (test (suc n)) (suc n)
-
--- the least number that CONFIRM accepts and that is not yet confirmed
-abbrev pub least_confirmable : Scen → List Entry → Option ℕ
-least_confirmable s t = least_to (may_be_confirmed s t) (control t).last
+use Rattle.xrf_world.specs.Report.{is_enabled, least_confirmable, notice_at}
 
 -- The choice that a byte draws, by the least number that may be confirmed; none where there is no such number.
 abbrev pub drawn_choice : Option ℕ → ℕ → Option Choice

@@ -2,23 +2,17 @@
 
 ghost use Rattle.std.specs.Prelude.{◌≡◌, ◌<◌, ◌≤◌, ◌%◌, Bool, true, false, is_some, length, Some, None, Ok};
 ghost use Rattle.xrf_setup.specs.declared.choice.Choice.TheVariants as choice;
-ghost use Rattle.xrf_drive.specs.Turns.{choice_or, drawn_choice, exit_answer, exit_at, exit_of_any, exit_or_step, if_enabled, in_its_place, least_confirmable, step_at, step_of_any, turn};
+ghost use Rattle.xrf_drive.specs.Turns.{choice_or, drawn_choice, exit_answer, exit_at, exit_of_any, exit_or_step, if_enabled, in_its_place, step_at, step_of_any, turn};
 ghost use Rattle.xrf_drive.specs.Tries.{Tried};
 ghost use Rattle.xrf_trace.specs.Scenario.{other};
-ghost use Rattle.xrf_world.specs.Report.{IsLeast, may_be_confirmed};
+ghost use Rattle.xrf_world.specs.Report.{least_confirmable};
 ghost use Rattle.xrf_world.specs.Runs.{Applied};
 
-use xrf_base::{Inc, Site};
+use xrf_base::Site;
 use xrf_exit::{ExitAnswer, Notice};
 use xrf_setup::ranges::CHOICES_MOST;
 use xrf_setup::{Choice, Landing};
 use xrf_world::World;
-
-fn least_confirmable(world: &World) -> Option<Inc>
-    ensures { result ≡ least_confirmable world.now.scenario world.now.trace }
-{
-    world.least_confirmable()
-}
 
 // the choice that a byte draws which draws no STEP
 fn drawn(world: &World, byte: u8) -> Option<Choice>
@@ -32,7 +26,7 @@ fn drawn(world: &World, byte: u8) -> Option<Choice>
         247 => Some(Choice::Stop(Site::B, Landing::Nothing)),
         248 => Some(Choice::StartActive(Site::A)),
         249 => Some(Choice::StartStandby(Site::B)),
-        250 | 251 => least_confirmable(world).map(Choice::Confirm),
+        250 | 251 => world.least_confirmable().map(Choice::Confirm),
         252 => Some(Choice::StartStandby(Site::A)),
         253 => Some(Choice::StartActive(Site::B)),
         _ => Some(Choice::Tick),

@@ -1,5 +1,5 @@
 -- What a tick and a confirmation ask of a pair, and what they leave of it.
-use Rattle.std.proofs.Common.{◌≡◌, ◌≢◌, ◌≤◌, ◌<◌, ◌+◌, ◌&&◌, not, nat_le, is_none, ℕ, Bool, true, false, ◌∙◌, sym, ap, subst, refl, arith, inl, inr, eq-or-lt_of_le, List, ◌∷◌, Ok, Err}
+use Rattle.std.proofs.Common.{◌≡◌, ◌≢◌, ◌≤◌, ◌<◌, ◌+◌, ◌&&◌, not, nat_le, is_none, ℕ, Bool, true, false, ◌∙◌, sym, ap, subst, refl, arith, inl, inr, eq-or-lt_of_le, ◌⊎◌, zero, suc, add-one, Option, Some, None, List, ◌∷◌, Ok, Err}
 use Rattle.std.proofs.lemmas.Grind.{common_steps}
 use Rattle.xrf_base.specs.declared.site.Site.{Site}
 use Rattle.xrf_base.specs.declared.site.Site.TheVariants as site
@@ -21,6 +21,7 @@ use Rattle.xrf_world.specs.declared.place.Place.{Place}
 use Rattle.xrf_world.specs.declared.seat.Seat.{Seat}
 use Rattle.xrf_world.specs.Making.{CanFollow, Makes}
 use Rattle.xrf_world.specs.Places.{KeptIs, PlaceIs}
+use Rattle.xrf_world.specs.Report.{least_to, or_if}
 use Rattle.xrf_world.specs.Seats.{SeatIs, ticked}
 use Rattle.xrf_world.specs.Standing.{Goes, MiddleIs, Stands}
 use Rattle.xrf_world.proofs.BesideLaws.{beside-kept}
@@ -46,13 +47,24 @@ yet-confirmable n last is_live is_confirmed some within =
     sym (ap (λ (b : Bool). is_none (unless b Dishonest) && not is_confirmed) (up-to-last n last (not is_live) (omega (arith, some)) within)
     ∙ yet-free is_live is_confirmed)
 
--- what holds of no number up to one, and not of the next, holds of none up to that
-pub none-to : (test : ℕ → Bool) (n : ℕ) → ((m : ℕ) → m ≤ n → test m ≡ false) → test (n + 1) ≡ false → (m : ℕ) → m ≤ n + 1 → test m ≡ false
-none-to test n before at m within =
-    elim (eq-or-lt_of_le within) [
-      | inl same ↦ subst (λ (k : ℕ). test k ≡ false) (sym same) at
-      | inr less ↦ before m (omega (arith, less))
-    ]
+-- THE LEAST number of which a test holds: none up to one, and not the next, is none up to that
+pub none-more : (test : ℕ → Bool) (n : ℕ) → least_to test n ≡ None → test (n + 1) ≡ false → least_to test (n + 1) ≡ None
+none-more test n none fails =
+    let here : test (suc n) ≡ false = subst (λ (k : ℕ). test k ≡ false) (add-one n) fails in
+    ap (least_to test) (add-one n) ∙ ap (λ (o : Option ℕ). or_if o (test (suc n)) (suc n)) none ∙ ap (λ (b : Bool). or_if None b (suc n)) here
+
+-- and the next, where it holds of that, is the least up to any number from there on
+pub least-is : (test : ℕ → Bool) (n last : ℕ) → least_to test n ≡ None → test (n + 1) ≡ true → n < last → least_to test last ≡ Some (n + 1)
+least-is test n zero none holds within = absurd (omega (arith, within))
+least-is test n (suc last) none holds within = by (λ (less : n < last). least-is test n last none holds less) (eq-or-lt_of_le within)
+  where
+    by : (n < last → least_to test last ≡ Some (n + 1)) → (suc n ≡ suc last) ⊎ (suc n < suc last) → least_to test (suc last) ≡ Some (n + 1)
+    by before (inl same) =
+        let at : last ≡ n = omega (arith, same) in
+        let here : test (suc n) ≡ true = subst (λ (k : ℕ). test k ≡ true) (add-one n) holds in
+        ap (λ (k : ℕ). least_to test (suc k)) at
+        ∙ ap (λ (o : Option ℕ). or_if o (test (suc n)) (suc n)) none ∙ ap (λ (b : Bool). or_if None b (suc n)) here ∙ ap Some (sym (add-one n))
+    by before (inr less) = ap (λ (o : Option ℕ). or_if o (test (suc last)) (suc last)) (before (omega (arith, less)))
 
 -- A TICK: its entry, and what it leaves of each place
 abbrev pub tick_entry : (at : ℕ) → Entry

@@ -1,5 +1,5 @@
 -- What the choices that reach a job, and a START, ask of a World, and what they leave: from the laws.
-use Rattle.std.proofs.Common.{◌≡◌, Bool, true, false, ◌||◌, ◌∙◌, sym, ap, refl, arith, is_some, is_none, List, length, Option, Some, None, Ok, Err}
+use Rattle.std.proofs.Common.{◌≡◌, Bool, true, false, ◌||◌, ◌∙◌, sym, ap, refl, arith, is_some, is_none, List, [], ◌∷◌, length, Option, Some, None, Ok, Err}
 use Rattle.std.specs.Option.{option_and_then}
 use Rattle.xrf_base.specs.declared.site.Site.{Site}
 use Rattle.xrf_active.specs.Taking.{LeavesRoom, HasSmallKeys}
@@ -7,15 +7,17 @@ use Rattle.xrf_cebt.specs.declared.commands.Cebt.{Cebt}
 use Rattle.xrf_cebt.specs.declared.replies.CebtReply.{CebtReply}
 use Rattle.xrf_exit.specs.declared.ExitAnswer.{ExitAnswer}
 use Rattle.xrf_exit.specs.declared.Notice.{Notice}
+use Rattle.xrf_setup.specs.declared.choice.Choice.{Choice}
 use Rattle.xrf_setup.specs.declared.choice.Choice.TheVariants as choice
 use Rattle.xrf_history.specs.declared.answer.Answer.{Answer}
 use Rattle.xrf_history.specs.declared.answer.Answer.TheVariants as answer
 use Rattle.xrf_history.specs.Accepting.{IsInTime, accepts, exit_allowed, may_abend, may_command, may_reply}
-use Rattle.xrf_history.specs.Answers.{fits}
+use Rattle.xrf_history.specs.Answers.{event, fits}
 use Rattle.xrf_history.specs.Events.{Event, StartedActive, StartedStandby}
 use Rattle.xrf_history.specs.Holding.{number}
 use Rattle.xrf_history.specs.Next.{next}
 use Rattle.xrf_history.specs.Notices.{notice}
+use Rattle.xrf_trace.specs.declared.entry.Act.{Act}
 use Rattle.xrf_trace.specs.declared.entry.Act.TheVariants as act
 use Rattle.xrf_trace.specs.declared.entry.Entry.{Entry}
 use Rattle.xrf_trace.specs.declared.entry.Land.TheVariants as land
@@ -26,8 +28,9 @@ use Rattle.xrf_trace.specs.Jobs.{hist, after_own}
 use Rattle.xrf_trace.specs.Refusals.{unless, of_job, exit_refusal}
 use Rattle.xrf_trace.specs.Runs.{outcome, outcome_of}
 use Rattle.xrf_trace.specs.Scenario.{Scen, settings}
-use Rattle.xrf_trace.specs.Words.{now, who_at}
+use Rattle.xrf_trace.specs.Words.{is_item, now, who_at}
 use Rattle.xrf_world.specs.Making.{IsReached, IsStarted}
+use Rattle.xrf_world.specs.Places.{answer_given}
 use Rattle.xrf_world.specs.Seats.{MayBeHanded}
 use Rattle.xrf_world.specs.Standing.{Goes}
 use Rattle.xrf_world.proofs.ActLaws.{own-hist, own-site, outcome-is}
@@ -56,29 +59,38 @@ handed-now s t x h a g there accepted in_time room small =
       small_keys = small;
     }
 
+-- where a choice that reaches a job is accepted by its entry, the job is handed its answer
+abbrev reach_entry : List Entry → Site → List Event → Act → Entry
+reach_entry t x h made = record { tick = now t; who = who_at x; inc = number h; act = made; land = land.Full }
+
+reached : (s : Scen) (t : List Entry) (x : Site) (h : List Event) (made : Act) (a : Answer) (c : Choice) → Goes s t → hist s t x ≡ Some h
+    → MayBeHanded (settings s x) h a → outcome s t c ≡ Ok (reach_entry t x h made) → is_item made ≡ false
+    → after_own s t x (now t) made land.Full (Some h) ≡ Some (event (settings s x) h a ∷ h) → None ≡ answer_given s t x (reach_entry t x h made)
+    → IsReached s t x made a c
+reached s t x h made a c g there handed out no_item after gives = record {
+  job = h;
+  entry = reach_entry t x h made;
+  there = there;
+  handed = handed;
+  is_entry = refl;
+  after = own-hist s t x (number h) made land.Full ∙ ap (after_own s t x (now t) made land.Full) there ∙ after;
+  records = record {
+    follow = can-follow s t (reach_entry t x h made) g.scen (g.run, (c, out)) g.few;
+    items = record { own = own-site x; left = λ is. absurd (cc); gives = gives };
+  };
+  is = out;
+}
+
 -- ABEND
 pub abend-made : (s : Scen) (t : List Entry) (x : Site) → Goes s t → of_job may_abend (hist s t x) ≡ true
     → IsReached s t x act.Abend answer.Abend (choice.Abend x)
 abend-made s t x g may =
     let there = job-met may_abend (hist s t x) may in
     let h : List Event = there.0 in
-    let e : Entry = record { tick = now t; who = who_at x; inc = number h; act = act.Abend; land = land.Full } in
-    let out : outcome s t (choice.Abend x) ≡ Ok e =
-    outcome-is s t (choice.Abend x) (unless true NotEnabled) e (ap (λ (b : Bool). unless b NotEnabled) may) refl
+    let out : outcome s t (choice.Abend x) ≡ Ok (reach_entry t x h act.Abend) =
+    outcome-is s t (choice.Abend x) (unless true NotEnabled) (reach_entry t x h act.Abend) (ap (λ (b : Bool). unless b NotEnabled) may) refl
     (ap (λ (job : Option (List Event)). record { tick = now t; who = who_at x; inc = inc_at act.Abend job; act = act.Abend; land = land.Full }) there.1) in
-    record {
-      job = h;
-      entry = e;
-      there = there.1;
-      handed = handed-now s t x h answer.Abend g there.1 there.2 tt tt tt;
-      is_entry = refl;
-      after = own-hist s t x (number h) act.Abend land.Full ∙ ap (after_own s t x (now t) act.Abend land.Full) there.1;
-      records = record {
-        follow = can-follow s t e g.scen (g.run, (choice.Abend x, out)) g.few;
-        items = record { own = own-site x; left = λ is. absurd (cc); gives = refl };
-      };
-      is = out;
-    }
+    reached s t x h act.Abend answer.Abend (choice.Abend x) g there.1 (handed-now s t x h answer.Abend g there.1 there.2 tt tt tt) out refl refl refl
 
 pub abend-refused : (s : Scen) (t : List Entry) (x : Site) → of_job may_abend (hist s t x) ≡ false → outcome s t (choice.Abend x) ≡ Err NotEnabled
 abend-refused s t x may = ap (λ (b : Bool). outcome_of s t (choice.Abend x) (unless b NotEnabled)) may
@@ -102,23 +114,11 @@ pub exit-made : (s : Scen) (t : List Entry) (x : Site) (said : ExitAnswer) → G
 exit-made s t x said g ok =
     let there = job-met (λ h. exit_allowed (notice h) said) (hist s t x) (exit-met (hist s t x) said ok) in
     let h : List Event = there.0 in
-    let e : Entry = record { tick = now t; who = who_at x; inc = number h; act = act.Exit said; land = land.Full } in
-    let out : outcome s t (choice.Exit x said) ≡ Ok e =
-    outcome-is s t (choice.Exit x said) None e ok refl
+    let out : outcome s t (choice.Exit x said) ≡ Ok (reach_entry t x h (act.Exit said)) =
+    outcome-is s t (choice.Exit x said) None (reach_entry t x h (act.Exit said)) ok refl
     (ap (λ (job : Option (List Event)). record { tick = now t; who = who_at x; inc = inc_at (act.Exit said) job; act = act.Exit said; land = land.Full }) there.1) in
-    record {
-      job = h;
-      entry = e;
-      there = there.1;
-      handed = handed-now s t x h (answer.Exit said (now t)) g there.1 there.2 (time-of s t x h g.run there.1).change_is tt tt;
-      is_entry = refl;
-      after = own-hist s t x (number h) (act.Exit said) land.Full ∙ ap (after_own s t x (now t) (act.Exit said) land.Full) there.1;
-      records = record {
-        follow = can-follow s t e g.scen (g.run, (choice.Exit x said, out)) g.few;
-        items = record { own = own-site x; left = λ is. absurd (cc); gives = refl };
-      };
-      is = out;
-    }
+    reached s t x h (act.Exit said) (answer.Exit said (now t)) (choice.Exit x said) g there.1
+    (handed-now s t x h (answer.Exit said (now t)) g there.1 there.2 (time-of s t x h g.run there.1).change_is tt tt) out refl refl refl
 
 pub exit-refused : (s : Scen) (t : List Entry) (x : Site) (said : ExitAnswer) (why : Refused)
     → exit_refusal (option_and_then notice (hist s t x)) said ≡ Some why → outcome s t (choice.Exit x said) ≡ Err why
@@ -130,23 +130,11 @@ pub reply-made : (s : Scen) (t : List Entry) (x : Site) (go : Bool) → Goes s t
 reply-made s t x go g may =
     let there = job-met (may_reply (settings s x)) (hist s t x) may in
     let h : List Event = there.0 in
-    let e : Entry = record { tick = now t; who = who_at x; inc = number h; act = act.Reply go; land = land.Full } in
-    let out : outcome s t (choice.Reply x go) ≡ Ok e =
-    outcome-is s t (choice.Reply x go) (unless true NotEnabled) e (ap (λ (b : Bool). unless b NotEnabled) may) refl
+    let out : outcome s t (choice.Reply x go) ≡ Ok (reach_entry t x h (act.Reply go)) =
+    outcome-is s t (choice.Reply x go) (unless true NotEnabled) (reach_entry t x h (act.Reply go)) (ap (λ (b : Bool). unless b NotEnabled) may) refl
     (ap (λ (job : Option (List Event)). record { tick = now t; who = who_at x; inc = inc_at (act.Reply go) job; act = act.Reply go; land = land.Full }) there.1) in
-    record {
-      job = h;
-      entry = e;
-      there = there.1;
-      handed = handed-now s t x h (answer.Reply go (now t)) g there.1 there.2 (time-of s t x h g.run there.1).change_is tt tt;
-      is_entry = refl;
-      after = own-hist s t x (number h) (act.Reply go) land.Full ∙ ap (after_own s t x (now t) (act.Reply go) land.Full) there.1;
-      records = record {
-        follow = can-follow s t e g.scen (g.run, (choice.Reply x go, out)) g.few;
-        items = record { own = own-site x; left = λ is. absurd (cc); gives = refl };
-      };
-      is = out;
-    }
+    reached s t x h (act.Reply go) (answer.Reply go (now t)) (choice.Reply x go) g there.1
+    (handed-now s t x h (answer.Reply go (now t)) g there.1 there.2 (time-of s t x h g.run there.1).change_is tt tt) out refl refl refl
 
 pub reply-refused : (s : Scen) (t : List Entry) (x : Site) (go : Bool) → of_job (may_reply (settings s x)) (hist s t x) ≡ false
     → outcome s t (choice.Reply x go) ≡ Err NotEnabled
@@ -159,24 +147,12 @@ pub command-made : (s : Scen) (t : List Entry) (x : Site) (command : Cebt) (told
 command-made s t x command told g may replies =
     let there = job-met may_command (hist s t x) may in
     let h : List Event = there.0 in
-    let e : Entry = record { tick = now t; who = who_at x; inc = number h; act = act.Cebt command told; land = land.Full } in
-    let out : outcome s t (choice.Cebt x command) ≡ Ok e =
-    outcome-is s t (choice.Cebt x command) (unless true NotEnabled) e (ap (λ (b : Bool). unless b NotEnabled) may) refl
+    let out : outcome s t (choice.Cebt x command) ≡ Ok (reach_entry t x h (act.Cebt command told)) =
+    outcome-is s t (choice.Cebt x command) (unless true NotEnabled) (reach_entry t x h (act.Cebt command told)) (ap (λ (b : Bool). unless b NotEnabled) may) refl
     (ap (λ (job : Option (List Event)). record { tick = now t; who = who_at x; inc = inc_at (command_act s x command job) job; act = command_act s x command job; land = land.Full }) there.1
     ∙ ap (λ (r : CebtReply). record { tick = now t; who = who_at x; inc = number h; act = act.Cebt command r; land = land.Full }) (sym (replies h there.1 there.2))) in
-    record {
-      job = h;
-      entry = e;
-      there = there.1;
-      handed = handed-now s t x h (answer.Cebt command (now t)) g there.1 there.2 (time-of s t x h g.run there.1).change_is tt tt;
-      is_entry = refl;
-      after = own-hist s t x (number h) (act.Cebt command told) land.Full ∙ ap (after_own s t x (now t) (act.Cebt command told) land.Full) there.1;
-      records = record {
-        follow = can-follow s t e g.scen (g.run, (choice.Cebt x command, out)) g.few;
-        items = record { own = own-site x; left = λ is. absurd (cc); gives = refl };
-      };
-      is = out;
-    }
+    reached s t x h (act.Cebt command told) (answer.Cebt command (now t)) (choice.Cebt x command) g there.1
+    (handed-now s t x h (answer.Cebt command (now t)) g there.1 there.2 (time-of s t x h g.run there.1).change_is tt tt) out refl refl refl
 
 pub command-refused : (s : Scen) (t : List Entry) (x : Site) (command : Cebt) → of_job may_command (hist s t x) ≡ false
     → outcome s t (choice.Cebt x command) ≡ Err NotEnabled
@@ -191,35 +167,32 @@ pub not-there : (job : Option (List Event)) → is_some job ≡ false → is_non
 not-there None ok = refl
 not-there (Some h) ok = absurd (cc)
 
+started : (s : Scen) (t : List Entry) (x : Site) (a : Act) (made : Event) (c : Choice) → Goes s t → is_none (hist s t x) ≡ true
+    → outcome s t c ≡ Ok (start_at t x a) → is_item a ≡ false → after_own s t x (now t) a land.Full (hist s t x) ≡ Some (made ∷ [])
+    → None ≡ answer_given s t x (start_at t x a) → IsStarted s t x a made c
+started s t x a made c g none out no_item after gives = record {
+  there = none-there (hist s t x) none;
+  after = own-hist s t x 0 a land.Full ∙ after;
+  records = record {
+    follow = can-follow s t (start_at t x a) g.scen (g.run, (c, out)) g.few;
+    items = record { own = own-site x; left = λ is. absurd (cc); gives = gives };
+  };
+  is = out;
+}
+
 pub active-made : (s : Scen) (t : List Entry) (x : Site) → Goes s t → is_none (hist s t x) ≡ true
     → IsStarted s t x act.StartActive StartedActive (choice.StartActive x)
 active-made s t x g none =
-    let out : outcome s t (choice.StartActive x) ≡ Ok (start_at t x act.StartActive) =
-    outcome-is s t (choice.StartActive x) (unless true NotEnabled) (start_at t x act.StartActive) (ap (λ (b : Bool). unless b NotEnabled) none) refl refl in
-    record {
-      there = none-there (hist s t x) none;
-      after = own-hist s t x 0 act.StartActive land.Full;
-      records = record {
-        follow = can-follow s t (start_at t x act.StartActive) g.scen (g.run, (choice.StartActive x, out)) g.few;
-        items = record { own = own-site x; left = λ is. absurd (cc); gives = refl };
-      };
-      is = out;
-    }
+    started s t x act.StartActive StartedActive (choice.StartActive x) g none
+    (outcome-is s t (choice.StartActive x) (unless true NotEnabled) (start_at t x act.StartActive) (ap (λ (b : Bool). unless b NotEnabled) none) refl refl)
+    refl refl refl
 
 pub standby-made : (s : Scen) (t : List Entry) (x : Site) → Goes s t → is_none (hist s t x) ≡ true
     → IsStarted s t x act.StartStandby StartedStandby (choice.StartStandby x)
 standby-made s t x g none =
-    let out : outcome s t (choice.StartStandby x) ≡ Ok (start_at t x act.StartStandby) =
-    outcome-is s t (choice.StartStandby x) (unless true NotEnabled) (start_at t x act.StartStandby) (ap (λ (b : Bool). unless b NotEnabled) none) refl refl in
-    record {
-      there = none-there (hist s t x) none;
-      after = own-hist s t x 0 act.StartStandby land.Full;
-      records = record {
-        follow = can-follow s t (start_at t x act.StartStandby) g.scen (g.run, (choice.StartStandby x, out)) g.few;
-        items = record { own = own-site x; left = λ is. absurd (cc); gives = refl };
-      };
-      is = out;
-    }
+    started s t x act.StartStandby StartedStandby (choice.StartStandby x) g none
+    (outcome-is s t (choice.StartStandby x) (unless true NotEnabled) (start_at t x act.StartStandby) (ap (λ (b : Bool). unless b NotEnabled) none) refl refl)
+    refl refl refl
 
 pub active-refused : (s : Scen) (t : List Entry) (x : Site) → is_none (hist s t x) ≡ false → outcome s t (choice.StartActive x) ≡ Err NotEnabled
 active-refused s t x some = ap (λ (b : Bool). outcome_of s t (choice.StartActive x) (unless b NotEnabled)) some

@@ -1,5 +1,5 @@
 -- What a report reads of a trace: the jobs, the items, the log, and what is enabled.
-use Rattle.std.specs.Prelude.{◌≡◌, ◌<◌, ℕ, Bool, true, false, ◌&&◌, ◌||◌, not, nat_lt, nat_le, ◌==◌, is_some, is_none, if◌then◌else◌, List, length, Option, Some, None}
+use Rattle.std.specs.Prelude.{ℕ, zero, suc, Bool, true, false, ◌&&◌, ◌||◌, not, nat_lt, nat_le, ◌==◌, is_some, is_none, if◌then◌else◌, List, length, Option, Some, None}
 use Rattle.std.specs.Option.{option_and_then, option_map}
 use Rattle.xrf_base.specs.declared.items.ItemAnswer.{ItemAnswer}
 use Rattle.xrf_base.specs.declared.site.Site.{Site}
@@ -17,6 +17,7 @@ use Rattle.xrf_history.specs.Notices.{notice}
 use Rattle.xrf_history.specs.Reserving.{sign_off_due, is_leaving}
 use Rattle.xrf_history.specs.Terminals as terminals
 use Rattle.xrf_trace.specs.declared.entry.Entry.{Entry}
+use Rattle.xrf_trace.specs.Devices.{control}
 use Rattle.xrf_trace.specs.Items.{answer}
 use Rattle.xrf_trace.specs.Jobs.{hist}
 use Rattle.xrf_trace.specs.Log.{log, committed}
@@ -92,7 +93,15 @@ is_finished s t = length t == CHOICES_MOST || (nat_le s.settings.ticks (now t) &
 abbrev pub may_be_confirmed : Scen → List Entry → ℕ → Bool
 may_be_confirmed s t n = is_enabled s t (choice.Confirm n) && not (confirmed t n)
 
--- the least such number, and none where there is none
-abbrev pub IsLeast : (ℕ → Bool) → Option ℕ → Type 0
-IsLeast test None = (n : ℕ) → test n ≡ false
-IsLeast test (Some n) = (test n ≡ true) × ((m : ℕ) → m < n → test m ≡ false)
+-- the least number from 1 to a last one of which a test holds, none where it holds of none
+abbrev pub or_if : Option ℕ → Bool → ℕ → Option ℕ
+or_if (Some m) holds n = Some m
+or_if None holds n = if holds then Some n else None
+
+abbrev pub least_to : (ℕ → Bool) → ℕ → Option ℕ
+least_to test zero = None
+least_to test (suc n) = or_if (least_to test n) (test (suc n)) (suc n)
+
+-- the least number that CONFIRM accepts and that is not yet confirmed: it was given
+abbrev pub least_confirmable : Scen → List Entry → Option ℕ
+least_confirmable s t = least_to (may_be_confirmed s t) (control t).last

@@ -1,5 +1,5 @@
 -- What is wanted of a site, and what kind of act that is.
-use Rattle.std.specs.Prelude.{ℕ, Bool, true, false, ◌||◌, nat_lt, is_some, if◌then◌else◌, List, length, Option, Some, None}
+use Rattle.std.specs.Prelude.{ℕ, Bool, true, false, nat_lt, is_some, if◌then◌else◌, List, length, Option, Some, None}
 use Rattle.xrf_base.specs.declared.site.Site.{Site}
 use Rattle.xrf_cavm.specs.declared.decisions.Decided.{Decided}
 use Rattle.xrf_setup.specs.declared.choice.Landing.{Landing}
@@ -14,6 +14,7 @@ use Rattle.xrf_trace.specs.declared.entry.Act.TheVariants as act
 use Rattle.xrf_trace.specs.declared.entry.Entry.{Entry}
 use Rattle.xrf_trace.specs.declared.entry.Refused.{Refused}
 use Rattle.xrf_trace.specs.declared.entry.Refused.TheVariants.{NotEnabled}
+use Rattle.xrf_trace.specs.Acts as acts
 use Rattle.xrf_trace.specs.Scenario.{Scen, settings, work}
 use Rattle.xrf_trace.specs.Words.{items_taken}
 use Rattle.xrf_trace.specs.Jobs.{hist}
@@ -46,46 +47,6 @@ may_make is_free _ = true
 abbrev pub reads_block : Want → Bool
 reads_block (want.LogRead b) = true
 reads_block _ = false
-
--- a signal
-abbrev pub is_signal : Want → Bool
-is_signal (want.Signal1 signal) = true
-is_signal (want.Signal2 signal) = true
-is_signal _ = false
-
--- a write that may be torn, and how many bytes it has
-abbrev pub torn_size : Want → Option ℕ
-torn_size (want.MsgClose k) = Some 1
-torn_size (want.MsgBody k message) = Some 63
-torn_size (want.MsgOpen k message) = Some 1
-torn_size (want.LogClose p) = Some 1
-torn_size (want.LogBody p rec) = Some 63
-torn_size (want.LogOpen p rec) = Some 1
-torn_size (want.KpClose k) = Some 1
-torn_size (want.KpBody k keypoint) = Some 63
-torn_size (want.KpOpen k keypoint) = Some 1
-torn_size (want.FileWrite unit k value) = Some 32
-torn_size (want.Undo k before) = Some 32
-torn_size _ = None
-
--- a write of a data set
-abbrev pub is_control_write : Want → Bool
-is_control_write (want.CtlWrite written) = true
-is_control_write _ = false
-
-abbrev pub is_write : Want → Bool
-is_write w = is_control_write w || is_signal w || is_some (torn_size w)
-
--- the refusals of a STOP and of a FAIL, by what is wanted
-abbrev pub stop_refusal : Landing → (has_job : Bool) → Want → Option Refused
-stop_refusal landing.Nothing has_job w = unless has_job NotEnabled
-stop_refusal landing.All has_job w = unless (is_write w) NotEnabled
-stop_refusal (landing.Torn bytes) has_job w = torn_refusal bytes (torn_size w)
-
-abbrev pub fail_refusal : Landing → Want → Option Refused
-fail_refusal landing.Nothing w = unless (may_fail w) NotEnabled
-fail_refusal landing.All w = unless (is_some (torn_size w)) NotEnabled
-fail_refusal (landing.Torn bytes) w = torn_refusal bytes (torn_size w)
 
 -- The act that a want is. An ITEM takes the item of this number, and a DECIDE has the decision that the job has made.
 abbrev pub decide_act : Option Decided → Act
@@ -124,3 +85,25 @@ act_of_want number decided want.Item = act.Item number
 act_of_want number decided (want.Clt k) = act.Clt k
 act_of_want number decided want.Restarted = act.Restarted
 act_of_want number decided (want.Ended reason) = act.Ended reason
+
+-- whether that act is a signal, how many bytes it has where it is a write that may be torn, and whether it is a write of a
+-- data set
+abbrev pub is_signal : Want → Bool
+is_signal w = acts.is_signal (act_of_want 0 None w)
+
+abbrev pub torn_size : Want → Option ℕ
+torn_size w = acts.torn_size (act_of_want 0 None w)
+
+abbrev pub is_write : Want → Bool
+is_write w = acts.is_write (act_of_want 0 None w)
+
+-- the refusals of a STOP and of a FAIL, by what is wanted
+abbrev pub stop_refusal : Landing → (has_job : Bool) → Want → Option Refused
+stop_refusal landing.Nothing has_job w = unless has_job NotEnabled
+stop_refusal landing.All has_job w = unless (is_write w) NotEnabled
+stop_refusal (landing.Torn bytes) has_job w = torn_refusal bytes (torn_size w)
+
+abbrev pub fail_refusal : Landing → Want → Option Refused
+fail_refusal landing.Nothing w = unless (may_fail w) NotEnabled
+fail_refusal landing.All w = unless (is_some (torn_size w)) NotEnabled
+fail_refusal (landing.Torn bytes) w = torn_refusal bytes (torn_size w)

@@ -5,7 +5,7 @@ ghost use Rattle.xrf_trace.specs.declared.entry.Entry.{Entry as Made};
 ghost use Rattle.xrf_trace.specs.Devices.{control};
 ghost use Rattle.xrf_trace.specs.Jobs.{live};
 ghost use Rattle.xrf_trace.specs.Refusals.{may_confirm};
-ghost use Rattle.xrf_world.specs.Report.{IsLeast, may_be_confirmed};
+ghost use Rattle.xrf_world.specs.Report.{least_confirmable, may_be_confirmed};
 ghost use Rattle.xrf_world.specs.Standing.{Stands};
 
 use crate::pair::Pair;
@@ -54,7 +54,7 @@ impl Pair {
     /// The least number that may be confirmed and is not yet, none where there is none.
     pub(crate) fn least_confirmable(&self) -> Option<Inc>
         requires { (t : List Made) × Stands self.now t }
-        ensures { (t : List Made) → Stands self.now t → IsLeast (may_be_confirmed self.now.middle.scenario t) result }
+        ensures { (t : List Made) → Stands self.now t → result ≡ least_confirmable self.now.middle.scenario t }
     {
         let last = self.last();
         for before in 0..last {

@@ -45,7 +45,7 @@ impl World {
 
     /// The least number that CONFIRM accepts and that is not yet confirmed, none where CONFIRM accepts no such number.
     pub fn least_confirmable(&self) -> Option<Inc>
-        ensures { report.IsLeast (report.may_be_confirmed self.now.scenario self.now.trace) result }
+        ensures { result ≡ report.least_confirmable self.now.scenario self.now.trace }
     {
         self.pair.least_confirmable()
     }

@@ -7,8 +7,8 @@ use Rattle.xrf.specs.Refusals.{plain}
 use Rattle.xrf.proofs.MadeLaws.{document-of-itself, few-entries}
 use Rattle.xrf.proofs.made.made_in.Goals as goal
 
-pub returns-in-Ok : goal.returns-in-Ok
-returns-in-Ok c =
+pub returns-in_ok-document-in-Ok : goal.returns-in_ok-document-in-Ok
+returns-in_ok-document-in-Ok c =
     let s = c.args.scenario.now in
     let choices = plain c.args.numbered.now in
     let ran =

@@ -18,7 +18,7 @@ use xrf_ctl::OwnerState;
 use xrf_exit::Notice;
 use xrf_file::Plan;
 use xrf_history::{Settings, Want};
-use xrf_job::{Common, Purpose, Rooms};
+use xrf_job::{Common, Rooms};
 use xrf_logrec::Keypoint;
 use xrf_terms::TermTable;
 
@@ -59,7 +59,7 @@ impl Active {
         rooms.clear();
         Active {
             settings: *settings,
-            common: Common::start(Purpose::SignOnActive),
+            common: Common::start(),
             rooms,
             sign_off: None,
             notice: None,

@@ -1,5 +1,5 @@
 -- What an owner that was let through keeps of the time before.
-use Rattle.std.proofs.Common.{◌≡◌, ℕ, Bool, true, false, ◌||◌, List, [], ◌∷◌, Option, Some, None, refl, sym, ◌∙◌, arith}
+use Rattle.std.proofs.Common.{◌≡◌, ℕ, Bool, true, false, List, [], ◌∷◌, Option, Some, None, refl, arith}
 use Rattle.std.proofs.lemmas.Grind.{common_steps}
 use Rattle.xrf_cavm.specs.declared.decisions.Decided.{Decided}
 use Rattle.xrf_cavm.specs.declared.decisions.Decided.TheVariants.{Owner}
@@ -14,10 +14,10 @@ use Rattle.xrf_history.specs.declared.want.Want.TheVariants as want
 use Rattle.xrf_history.specs.Accepting.{may_take}
 use Rattle.xrf_history.specs.Answers.{event, fits, made, gate_event}
 use Rattle.xrf_history.specs.Deciding.{mode_of, cause}
-use Rattle.xrf_history.specs.Events.{Event, StartedStandby, Ticked, Abended, Replied, Commanded, Exited, Reserved, ControlRead, ControlWritten, DecisionMade, ActFailed, MessageRead, MessageClosed, LogLooked, LogClosed, LogOpened, KeyLooked, RecordRead, RecordUndone, Given, Released}
+use Rattle.xrf_history.specs.Events.{Event, StartedStandby, Ticked, Abended, Replied, Commanded, Exited, Reserved, ControlRead, ControlWritten, DecisionMade, MessageRead, MessageClosed, LogLooked, LogClosed, LogOpened, KeyLooked, RecordRead, RecordUndone, Given, Released}
 use Rattle.xrf_history.specs.Holding.{is_owner, is_granted, starts_active, number}
 use Rattle.xrf_history.specs.Next.{inside, next, or_boundary}
-use Rattle.xrf_history.specs.Reserving.{Purpose, StartTakeover, SignOff, DropAlternate, purpose, purpose_now, abandons, is_leaving, is_starting, has_abandoned}
+use Rattle.xrf_history.specs.Reserving.{Purpose, StartTakeover, purpose, purpose_now, abandons, is_leaving, is_starting}
 use Rattle.xrf_history.specs.Rows.{boundary}
 use Rattle.xrf_history.proofs.Holding.{owner-granted}
 use Rattle.xrf_history.proofs.PhaseLaws.{boundary-outside}

@@ -1,5 +1,5 @@
 -- When a job stands for a history, by what it is by now: an alternate, or an owner that was let through.
-use Rattle.std.specs.Prelude.{◌≡◌, ◌<◌, Bool, true, false, List, length}
+use Rattle.std.specs.Prelude.{◌≡◌, ◌<◌, false, List, length}
 use Rattle.xrf_history.specs.declared.settings.Settings.{Settings}
 use Rattle.xrf_history.specs.Events.{Event}
 use Rattle.xrf_history.specs.Holding.{is_owner, starts_active}

@@ -13,7 +13,7 @@ ghost use Rattle.xrf_standby.specs.Alternate.{Stands};
 use xrf_base::{Inc, Takeovr};
 use xrf_cavm::{Decided, Mode};
 use xrf_history::{EndWhy, Settings, Want};
-use xrf_job::{Common, Purpose, Rooms};
+use xrf_job::{Common, Rooms};
 use xrf_terms::TermTable;
 
 /// The job of a region that signs on as standby, tracks the active, and starts a takeover, up to the
@@ -51,7 +51,7 @@ impl Alternate {
         rooms.clear();
         Alternate {
             settings: *settings,
-            common: Common::start(Purpose::SignOnActive),
+            common: Common::start(),
             rooms,
             mode: Mode {
                 takeovr: settings.takeovr,

@@ -1,4 +1,3 @@
-use Rattle.std.proofs.Common.{refl}
 use Rattle.xrf_active.proofs.Alternates.{started_standby}
 use Rattle.xrf_standby.proofs.Through.{starts_none}
 use Rattle.xrf_standby.proofs.alternate.Alternate.promote.Goals as goal

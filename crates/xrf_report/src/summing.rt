@@ -63,13 +63,14 @@ fn changes_owner(before: &Control, act: &Act) -> bool
     }
 }
 
-// the control record after an entry
-fn after(before: Control, entry: &Entry) -> Control
-    ensures { result ≡ control_after entry.now.act entry.now.land before }
+// the control record as an entry leaves it
+fn land_control(control: &mut Control, entry: &Entry)
+    ensures { control.new ≡ control_after entry.now.act entry.now.land control.old }
 {
-    match &entry.act {
-        Act::CtlWrite(written) => { if lands(&entry.land) { *written } else { before } }
-        _ => before,
+    if let Act::CtlWrite(written) = &entry.act {
+        if lands(&entry.land) {
+            *control = *written;
+        }
     }
 }
 
@@ -88,7 +89,7 @@ fn count_throughs(journal: &[Entry]) -> u64
         if is_through(&control, entry) {
             count += 1;
         }
-        control = after(control, entry);
+        land_control(&mut control, entry);
     }
     count
 }

@@ -186,6 +186,15 @@ class Replayed(unittest.TestCase):
         self.assertEqual((status, out, err.count("\n")), (1, "", 1))
         self.assertIn("LINE 4 NOT-ENABLED", err)
 
+    def test_a_plan_without_choices_is_for_the_word_run(self) -> None:
+        path = self.room / "planned.out"
+        path.write_text("\n".join(["XRF 1", "PLAN 0 START A ACTIVE", "CHOICES", "END", "* TICK 0", "* CONTROL 0 OWNER NONE ALT NONE TAKING NONE",
+                                   "* JOB A NONE", "* JOB B NONE", "* LOG 0 COMMITTED 0 FLIGHT 0", "* DONE", ""]))
+        for words in (["explain"], ["draw", "--text"]):
+            status, _, err = call(*words, str(path))
+            self.assertEqual(status, 0)
+            self.assertIn("xrf run makes the choices", err)
+
     def test_a_program_that_fails_is_a_fault(self) -> None:
         status, out, err = call("explain", self.scenario("# DOWN"))
         self.assertEqual((status, out), (1, ""))

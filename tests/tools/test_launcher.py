@@ -29,7 +29,7 @@ echo "$input"
 case $input in status\\ *) exit "${input#status }" ;; esac
 """
 
-CRATES = "# NAME: what it stands on\nlow:\nbeside: low\nmiddle: low byteorder\nxrf: middle low\n"
+CRATES = "# NAME: what it stands on\nlow:\nbeside: low\nmiddle may_wait=5: low byteorder\nxrf may_wait=8 tests_may=Threads+Wait: middle low\n"
 
 
 class Checkout(unittest.TestCase):
@@ -171,6 +171,16 @@ class Building(Checkout):
         os.utime(self.home / "crates/low/src/lib.rt", (later, later))
         self.run_xrf("replay")
         self.assertEqual(len(self.rt_calls()), 2 * calls)
+
+    def test_each_crate_of_this_repository_is_built_after_those_it_stands_on(self) -> None:
+        done = subprocess.run([ROOT / "tools/build", "--crates"], capture_output=True, text=True, timeout=60)
+        crates = done.stdout.split()
+        self.assertEqual(crates[-1], "xrf")
+        lines = (line.split(":") for line in (ROOT / "crates.txt").read_text().splitlines() if line and line[0] != "#")
+        uses = {head.split()[0]: used.split() for head, used in lines}
+        for place, crate in enumerate(crates):
+            own = [name for name in uses[crate] if name in uses]
+            self.assertLessEqual(set(own), set(crates[:place]), crate)
 
     def test_build_builds_and_takes_no_words(self) -> None:
         self.assertEqual(self.run_xrf("build").returncode, 0)

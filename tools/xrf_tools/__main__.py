@@ -9,13 +9,12 @@ from pathlib import Path
 from typing import NoReturn
 
 from xrf_tools.checking import Checking, check_all, junit, scenarios, table
-from xrf_tools.document import read
 from xrf_tools.errors import Fault
 from xrf_tools.picture.columns import PLAIN, columns
 from xrf_tools.picture.page import page, svg
 from xrf_tools.refusals import read_refusal, told
 from xrf_tools.scene import Scene, build, part_of
-from xrf_tools.source import REFUSED, built_program, given_and_written, load
+from xrf_tools.source import REFUSED, built_program, given_and_written, load, read_written
 from xrf_tools.story import by_acts, summed_up
 
 GENERATOR = 'content="xrf draw"'
@@ -98,7 +97,7 @@ def run_explain(given: argparse.Namespace) -> int:
     if answer.startswith(REFUSED):
         lines = told(read_refusal(answer, text), can_run=bool(text) and not given.answer)
     else:
-        document = read("standard input" if given.file == "-" else given.file, answer)
+        document = read_written(given.file, answer)
         lines = by_acts(document) if given.acts else summed_up(document)
     write("\n".join(lines) + "\n", "")
     return 0

@@ -2,6 +2,7 @@
 
 import os
 import subprocess
+import sys
 from dataclasses import dataclass
 from pathlib import Path
 
@@ -66,6 +67,15 @@ def name_of(path: str) -> str:
     return "standard input" if path == "-" else path
 
 
+def read_written(path: str, answer: str) -> Document:
+    """The document that was written of a file. Where the scenario is one for `xrf run`, that is said."""
+    document = read(name_of(path), answer)
+    if document.scenario.plan and not document.choices:
+        print(f"xrf: {name_of(path)} has a plan and no choices, so nothing happens in it; xrf run makes the choices",
+              file=sys.stderr)
+    return document
+
+
 def load(path: str) -> Document:
     """The document in a file, or of the scenario in it."""
     text = read_text(path)
@@ -74,7 +84,7 @@ def load(path: str) -> Document:
     text, answer = text_and_written(text, path)
     if answer.startswith(REFUSED):
         raise Fault(f"{name_of(path)} is no run but refused: {answer.strip()}; xrf explain says more")
-    return read(name_of(path), answer)
+    return read_written(path, answer)
 
 
 def given_and_written(path: str, answer: str | None) -> tuple[str, str]:

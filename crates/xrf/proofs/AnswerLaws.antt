@@ -1,10 +1,10 @@
 -- What is answered, from what is made and what is written.
 use Rattle.std.proofs.Common.{◌≡◌, inl, inr, ◌<◌, ℕ, List, [], length, Option, Some, None, IfSome, refl, sym, subst, arith}
-use Rattle.xrf_edge.specs.Ends.{ReadToEnd, AppendsPrefix, came}
+use Rattle.xrf_edge.specs.Ends.{End, ReadToEnd, AppendsPrefix, came}
 use Rattle.xrf_edge.specs.Faults.{HasRisen}
 use Rattle.xrf.specs.Refusals.{IsRefusal, refusal_line}
 use Rattle.xrf.specs.Made.{IsDocument, IsMade}
-use Rattle.xrf.specs.Answer.{End, Said, Refusing, WritesMade, Replayed, Writes, Refuses, IsText}
+use Rattle.xrf.specs.Answer.{WritesText, Refusing, WritesMade, Replayed, Writes, Refuses, IsText}
 use Rattle.xrf.specs.declared.refusal.Reason.{Reason}
 use Rattle.xrf.specs.declared.refusal.Reason.TheVariants.{Grammar}
 use Rattle.xrf_grammar.specs.declared.reason.Reason.TheVariants.{TooLarge}
@@ -18,9 +18,9 @@ pub if-some : {A : Type 0} (P Q : A → Type 0) (o : Option A) → ((x : A) → 
 if-some P Q None f h = tt
 if-some P Q (Some x) f h = f x h
 
--- a text is said by what it is
-pub said-text : (sink sink' : End) (text other : List ℕ) (status result : Status) → text ≡ other → Said sink sink' text status result → Said sink sink' other status result
-said-text sink sink' text other status result same said = subst (λ (t : List ℕ). Said sink sink' t status result) same said
+-- the same text is written
+pub same-text : (sink sink' : End) (text other : List ℕ) (status result : Status) → text ≡ other → WritesText sink sink' text status result → WritesText sink sink' other status result
+same-text sink sink' text other status result same said = subst (λ (t : List ℕ). WritesText sink sink' t status result) same said
 
 -- a sink that fails in the text of an input
 fails : (source source' sink sink' : End) (status : Status) (text : List ℕ) → IfSome source.bytes (λ bytes. IsText bytes text)
@@ -35,19 +35,19 @@ no_memory source source' sink sink' status none same = subst (Replayed source so
 pub refused : (source source' sink sink' : End) (number : ℕ) (reason : Reason) (status : Status) → IfSome source.bytes (λ bytes. IsRefusal bytes number reason)
     → Refusing sink sink' number reason status → Replayed source source' sink sink' status
 refused source source' sink sink' number reason status is (inl none) = no_memory source source' sink sink' status none.0 none.1
-refused source source' sink sink' number reason status is (inr (inl said)) =
-    subst (Replayed source source' sink sink') (sym said.0)
+refused source source' sink sink' number reason status is (inr (inl written)) =
+    subst (Replayed source source' sink sink') (sym written.0)
     (if-some (λ bytes. IsRefusal bytes number reason) (λ bytes. Refuses bytes sink sink') source.bytes
-    (λ bytes is. record { number = number; reason = reason; is = is; grown = said.1 }) is)
+    (λ bytes is. record { number = number; reason = reason; is = is; grown = written.1 }) is)
 refused source source' sink sink' number reason status is (inr (inr failed)) =
     fails source source' sink sink' status (refusal_line number reason)
     (if-some (λ bytes. IsRefusal bytes number reason) (λ bytes. IsText bytes (refusal_line number reason)) source.bytes (λ bytes is. inr (number, reason, is, refl)) is)
     failed.0 failed.1 failed.2
 
--- what is told of a text that is all that was left
-pub told : (source source' : End) (text : List ℕ) (P : List ℕ → Type 0) → ReadToEnd source.bytes source'.bytes text → P text
+-- what holds of a text that is all that was left holds of what was left
+pub all-read : (source source' : End) (text : List ℕ) (P : List ℕ → Type 0) → ReadToEnd source.bytes source'.bytes text → P text
     → IfSome source.bytes (λ bytes. P bytes × (source'.bytes ≡ Some []))
-told source source' text P read is = if-some (λ bytes. (text ≡ bytes) × (source'.bytes ≡ Some [])) (λ bytes. P bytes × (source'.bytes ≡ Some [])) source.bytes (λ bytes r. (subst P r.0 is, r.1)) read
+all-read source source' text P read is = if-some (λ bytes. (text ≡ bytes) × (source'.bytes ≡ Some [])) (λ bytes. P bytes × (source'.bytes ≡ Some [])) source.bytes (λ bytes r. (subst P r.0 is, r.1)) read
 
 pub firsts : (source source' : End) (P : List ℕ → Type 0) → IfSome source.bytes (λ bytes. P bytes × (source'.bytes ≡ Some [])) → IfSome source.bytes P
 firsts source source' P h = if-some (λ bytes. P bytes × (source'.bytes ≡ Some [])) P source.bytes (λ bytes r. r.0) h
@@ -57,14 +57,14 @@ pub replayed : (source source' sink sink' : End) (text : List ℕ) (made : Made)
     → WritesMade sink sink' made status → Replayed source source' sink sink' status
 replayed source source' sink sink' text Nothing status read is written = no_memory source source' sink sink' status written.0 written.1
 replayed source source' sink sink' text (Refusal number reason) status read is written =
-    refused source source' sink sink' number reason status (firsts source source' (λ bytes. IsRefusal bytes number reason) (told source source' text (λ bytes. IsRefusal bytes number reason) read is)) written
-replayed source source' sink sink' text (Document out) status read is (inl said) =
-    subst (Replayed source source' sink sink') (sym said.0)
+    refused source source' sink sink' number reason status (firsts source source' (λ bytes. IsRefusal bytes number reason) (all-read source source' text (λ bytes. IsRefusal bytes number reason) read is)) written
+replayed source source' sink sink' text (Document out) status read is (inl written) =
+    subst (Replayed source source' sink sink') (sym written.0)
     (if-some (λ bytes. IsDocument bytes out.items × (source'.bytes ≡ Some [])) (λ bytes. Writes bytes source' sink sink') source.bytes
-    (λ bytes r. record { text = out.items; is = r.0; again = is.1; read = r.1; grown = said.1 }) (told source source' text (λ bytes. IsDocument bytes out.items) read is.0))
+    (λ bytes r. record { text = out.items; is = r.0; again = is.1; read = r.1; grown = written.1 }) (all-read source source' text (λ bytes. IsDocument bytes out.items) read is.0))
 replayed source source' sink sink' text (Document out) status read is (inr failed) =
     fails source source' sink sink' status out.items
-    (if-some (λ bytes. IsDocument bytes out.items × (source'.bytes ≡ Some [])) (λ bytes. IsText bytes out.items) source.bytes (λ bytes r. inl r.0) (told source source' text (λ bytes. IsDocument bytes out.items) read is.0))
+    (if-some (λ bytes. IsDocument bytes out.items × (source'.bytes ≡ Some [])) (λ bytes. IsText bytes out.items) source.bytes (λ bytes r. inl r.0) (all-read source source' text (λ bytes. IsDocument bytes out.items) read is.0))
     failed.0 failed.1 failed.2
 
 -- where more came than is allowed, the input is larger

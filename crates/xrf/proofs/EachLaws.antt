@@ -1,5 +1,5 @@
 -- Each input has a document or a refusal.
-use Rattle.std.proofs.Common.{◌≡◌, ◌≤◌, ◌<◌, ◌⊎◌, inl, inr, ◌+◌, ℕ, zero, suc, List, [], ◌∷◌, length, map, slice_get, Option, Some, Result, Ok, Err, refl, sym, subst, arith}
+use Rattle.std.proofs.Common.{◌≡◌, ◌≤◌, ◌<◌, ◌⊎◌, inl, inr, ◌+◌, ℕ, zero, suc, List, [], ◌∷◌, length, slice_get, Some, Result, Ok, Err, refl, sym, subst}
 use Rattle.std.proofs.lemmas.Bool.{cases_lt}
 use Rattle.xrf_grammar.specs.declared.reason.Reason.TheVariants.{TooLarge}
 use Rattle.xrf_setup.specs.declared.choice.Choice.{Choice}
@@ -14,7 +14,7 @@ use Rattle.xrf_scenario.specs.Settled.{scenario_of}
 use Rattle.xrf_scenario.specs.SoFar.{SoFar, nothing_said}
 use Rattle.xrf_scenario.specs.declared.numbered.Numbered.{Numbered}
 use Rattle.xrf_scenario.proofs.HeldLaws.{choices-held}
-use Rattle.xrf_scenario.proofs.ReadingLaws.{bad-told, found-told, says-step}
+use Rattle.xrf_scenario.proofs.ReadingLaws.{whole-bad, whole-reads, says-step}
 use Rattle.xrf_scenario.proofs.SaidLaws.{nothing-said, scen-said, step-said}
 use Rattle.xrf_trace.specs.declared.entry.Entry.{Entry}
 use Rattle.xrf_trace.specs.Runs.{Refusal as Stopped, run}
@@ -25,7 +25,6 @@ use Rattle.xrf.proofs.MadeLaws.{few-entries}
 use Rattle.xrf.specs.Answer.{HasAnswer, HasOne}
 use Rattle.xrf.specs.Made.{IsDocument}
 use Rattle.xrf.specs.Refusals.{IsRefusal, Stops, plain}
-use Rattle.xrf.specs.declared.refusal.Reason.{Reason}
 use Rattle.xrf.specs.declared.refusal.Reason.TheVariants.{Grammar, Choosing}
 
 -- lines that say something keep what is said within its bounds
@@ -63,9 +62,9 @@ of-run bytes s choices (Err stop) size reads ran =
     inr (there.0.line, (Choosing stop.reason, is))
 
 of-text : (bytes : List ℕ) (o : Result SoFar Fault) → length bytes ≤ INPUT_MOST → read_whole bytes ≡ o → HasOne bytes
-of-text bytes (Ok so) size read = of-run bytes (scenario_of so) so.choices (run (scenario_of so) (plain so.choices)) size (found-told bytes so read) refl
+of-text bytes (Ok so) size read = of-run bytes (scenario_of so) so.choices (run (scenario_of so) (plain so.choices)) size (whole-reads bytes so read) refl
 of-text bytes (Err fault) size read =
-    let is : IsRefusal bytes fault.line (Grammar fault.reason) = inr (size, bad-told bytes fault read) in
+    let is : IsRefusal bytes fault.line (Grammar fault.reason) = inr (size, whole-bad bytes fault read) in
     inr (fault.line, (Grammar fault.reason, is))
 
 by-size : (bytes : List ℕ) → (INPUT_MOST < length bytes) ⊎ (length bytes ≤ INPUT_MOST) → HasOne bytes

@@ -1,6 +1,6 @@
 -- What is answered to `run`, from what is made and what is written.
 use Rattle.std.proofs.Common.{◌≡◌, ◌⊎◌, inl, inr, ◌<◌, ◌≤◌, ℕ, List, [], ◌∷◌, length, reverse, Option, Some, None, IfSome, Ok, refl, sym, subst, arith}
-use Rattle.xrf_edge.specs.Ends.{ReadToEnd, AppendsPrefix, came}
+use Rattle.xrf_edge.specs.Ends.{End, ReadToEnd, AppendsPrefix, came}
 use Rattle.xrf_edge.specs.Faults.{HasRisen}
 use Rattle.xrf_exit.specs.declared.ExitAnswer.{ExitAnswer}
 use Rattle.xrf_grammar.specs.declared.reason.Reason.TheVariants.{TooLarge}
@@ -15,7 +15,7 @@ use Rattle.xrf_trace.specs.Runs.{run}
 use Rattle.xrf_trace.specs.Safe.{Safe}
 use Rattle.xrf_report.specs.Document.{doc, ReadsAgain}
 use Rattle.xrf_run.specs.Threaded.{IsThreadedRun}
-use Rattle.xrf.specs.Answer.{End, Refusing, WritesMade}
+use Rattle.xrf.specs.Answer.{Refusing, WritesMade}
 use Rattle.xrf.specs.Live.{IsThreadedDocument, IsThreadedRefusal, IsThreadedMade, IsThreadedText, WritesThreaded, RefusesThreaded, Lived, LivesThrough}
 use Rattle.xrf.specs.Made.{IsDocument}
 use Rattle.xrf.specs.Refusals.{refusal_line}
@@ -25,7 +25,7 @@ use Rattle.xrf.specs.declared.refusal.Reason.{Reason}
 use Rattle.xrf.specs.declared.refusal.Reason.TheVariants.{Grammar, Choosing}
 use Rattle.xrf.specs.declared.status.Status.{Status}
 use Rattle.xrf.specs.declared.status.Status.TheVariants.{Done, Refused, Usage, ReadFault, WriteFault, NoMemory}
-use Rattle.xrf.proofs.AnswerLaws.{if-some, told, firsts, came-more}
+use Rattle.xrf.proofs.AnswerLaws.{if-some, all-read, firsts, came-more}
 use Rattle.xrf.proofs.MadeLaws.{document-of-itself}
 use Rattle.xrf.proofs.OneLaws.{there}
 
@@ -51,10 +51,10 @@ lived-no_memory may source source' sink sink' status none same = subst (Lived ma
 pub lived-refused : (may : ExitAnswer → Type 0) (source source' sink sink' : End) (number : ℕ) (reason : Reason) (status : Status) → IfSome source.bytes (λ bytes. IsThreadedRefusal bytes number reason)
     → Refusing sink sink' number reason status → Lived may source source' sink sink' status
 lived-refused may source source' sink sink' number reason status is (inl none) = lived-no_memory may source source' sink sink' status none.0 none.1
-lived-refused may source source' sink sink' number reason status is (inr (inl said)) =
-    subst (Lived may source source' sink sink') (sym said.0)
+lived-refused may source source' sink sink' number reason status is (inr (inl written)) =
+    subst (Lived may source source' sink sink') (sym written.0)
     (if-some (λ bytes. IsThreadedRefusal bytes number reason) (λ bytes. RefusesThreaded bytes sink sink') source.bytes
-    (λ bytes is. record { number = number; reason = reason; is = is; grown = said.1 }) is)
+    (λ bytes is. record { number = number; reason = reason; is = is; grown = written.1 }) is)
 lived-refused may source source' sink sink' number reason status is (inr (inr failed)) =
     lived-fails may source source' sink sink' status (refusal_line number reason)
     (if-some (λ bytes. IsThreadedRefusal bytes number reason) (λ bytes. IsThreadedText may bytes (refusal_line number reason)) source.bytes (λ bytes is. inr (number, reason, is, refl)) is)
@@ -66,15 +66,15 @@ pub lived : (may : ExitAnswer → Type 0) (source source' sink sink' : End) (tex
 lived may source source' sink sink' text Nothing status read is written = lived-no_memory may source source' sink sink' status written.0 written.1
 lived may source source' sink sink' text (Refusal number reason) status read is written =
     lived-refused may source source' sink sink' number reason status
-    (firsts source source' (λ bytes. IsThreadedRefusal bytes number reason) (told source source' text (λ bytes. IsThreadedRefusal bytes number reason) read is)) written
-lived may source source' sink sink' text (Document out) status read is (inl said) =
-    subst (Lived may source source' sink sink') (sym said.0)
+    (firsts source source' (λ bytes. IsThreadedRefusal bytes number reason) (all-read source source' text (λ bytes. IsThreadedRefusal bytes number reason) read is)) written
+lived may source source' sink sink' text (Document out) status read is (inl written) =
+    subst (Lived may source source' sink sink') (sym written.0)
     (if-some (λ bytes. IsThreadedDocument may bytes out.items × (source'.bytes ≡ Some [])) (λ bytes. WritesThreaded may bytes source' sink sink') source.bytes
-    (λ bytes r. record { text = out.items; is = r.0; again = is.1; read = r.1; grown = said.1 }) (told source source' text (λ bytes. IsThreadedDocument may bytes out.items) read is.0))
+    (λ bytes r. record { text = out.items; is = r.0; again = is.1; read = r.1; grown = written.1 }) (all-read source source' text (λ bytes. IsThreadedDocument may bytes out.items) read is.0))
 lived may source source' sink sink' text (Document out) status read is (inr failed) =
     lived-fails may source source' sink sink' status out.items
     (if-some (λ bytes. IsThreadedDocument may bytes out.items × (source'.bytes ≡ Some [])) (λ bytes. IsThreadedText may bytes out.items) source.bytes (λ bytes r. inl r.0)
-    (told source source' text (λ bytes. IsThreadedDocument may bytes out.items) read is.0))
+    (all-read source source' text (λ bytes. IsThreadedDocument may bytes out.items) read is.0))
     failed.0 failed.1 failed.2
 
 -- where more came than is allowed, the input is too large

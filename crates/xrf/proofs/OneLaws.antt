@@ -1,6 +1,7 @@
 -- At most one document, at most one refusal, and never both.
 use Rattle.std.proofs.Common.{String, ◌≡◌, ◌⊎◌, inl, inr, ℕ, Bool, true, false, List, slice_get, Option, Some, None, IfSome, MatchBool, Result, Ok, Err, refl, sym, ◌∙◌, ap, subst, arith}
 use Rattle.std.specs.Global.{Global}
+use Rattle.xrf_edge.specs.Ends.{End}
 use Rattle.xrf_edge.specs.Faults.{HasRisen}
 use Rattle.xrf_setup.specs.Scenario.{Scen}
 use Rattle.xrf_scenario.specs.declared.numbered.Numbered.{Numbered}
@@ -18,7 +19,7 @@ use Rattle.xrf.specs.Driven.{Driven}
 use Rattle.xrf.specs.Refusals.{IsRefusal}
 use Rattle.xrf.specs.declared.drive_words.Asked.{Asked}
 use Rattle.xrf.specs.declared.refusal.Reason.{Reason}
-use Rattle.xrf.specs.Answer.{End, Said, Replayed, Unread, Answered, Complete, IsOr, OneText, OneRefusal, NeverRefused}
+use Rattle.xrf.specs.Answer.{WritesText, Replayed, Unread, Answered, Complete, IsOr, OneText, OneRefusal, NeverRefused}
 use Rattle.xrf.specs.declared.refusal.Reason.TheVariants.{Grammar, Choosing}
 use Rattle.xrf.specs.declared.status.Status.{Status}
 use Rattle.xrf.specs.declared.status.Status.TheVariants.{Done, Refused, Usage, ReadFault, WriteFault, NoMemory}
@@ -109,10 +110,10 @@ driven_whole asked sink sink' ReadFault quiet answer = absurd answer
 driven_whole asked sink sink' WriteFault quiet answer = absurd (quiet answer.cause)
 driven_whole asked sink sink' NoMemory quiet answer = inr refl
 
--- what is said without a fault
-said_whole : (sink sink' : End) (text : List ℕ) (wanted status : Status) → ¬ HasRisen sink.faults sink'.faults → Said sink sink' text wanted status → status ≡ wanted
-said_whole sink sink' text wanted status quiet (inl said) = said.0
-said_whole sink sink' text wanted status quiet (inr failed) = absurd (quiet failed.1)
+-- what is written without a fault
+written_whole : (sink sink' : End) (text : List ℕ) (wanted status : Status) → ¬ HasRisen sink.faults sink'.faults → WritesText sink sink' text wanted status → status ≡ wanted
+written_whole sink sink' text wanted status quiet (inl written) = written.0
+written_whole sink sink' text wanted status quiet (inr failed) = absurd (quiet failed.1)
 
 -- what words other than `replay` are answered, by what they ask
 unread_at : (source source' sink sink' : End) (status : Status) (found asked : Option Asked) → found ≡ asked → Unread found source source' sink sink' status
@@ -129,5 +130,5 @@ complete words source source' sink sink' status answered =
       document = λ bytes text asked is d quiet quiet'. replay_complete source source' sink sink' status bytes text is d quiet quiet' (replayed asked);
       refusal = λ bytes number reason asked is r quiet quiet'. replay_refused source source' sink sink' status bytes number reason is r quiet quiet' (replayed asked);
       drive = λ asked other is quiet. driven_whole asked sink sink' status quiet (unread_at source source' sink sink' status (drive_asked words) (Some asked) is (unread other)).1;
-      usage = λ other none quiet. said_whole sink sink' usage_line Usage status quiet (unread_at source source' sink sink' status (drive_asked words) None none (unread other)).1;
+      usage = λ other none quiet. written_whole sink sink' usage_line Usage status quiet (unread_at source source' sink sink' status (drive_asked words) None none (unread other)).1;
     }

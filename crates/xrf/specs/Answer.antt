@@ -2,9 +2,8 @@
 use Rattle.std.specs.Prelude.{◌≡◌, ◌⊎◌, ℕ, true, false, List, [], Option, Some, None, IfSome, MatchBool, String}
 use Rattle.std.specs.Global.{Global}
 use Rattle.std.specs.Io.KnownBytes.{Appends}
-use Rattle.xrf_edge.specs.Ends.{AppendsPrefix}
+use Rattle.xrf_edge.specs.Ends.{End, AppendsPrefix}
 use Rattle.xrf_edge.specs.Faults.{HasRisen}
-pub use Rattle.xrf.specs.Ends.{End}
 use Rattle.xrf.specs.Words.{is_replay, usage_line}
 use Rattle.xrf.specs.DriveWords.{drive_asked}
 use Rattle.xrf.specs.Driven.{Driven}
@@ -18,8 +17,8 @@ use Rattle.xrf.specs.declared.status.Status.{Status}
 use Rattle.xrf.specs.declared.status.Status.TheVariants.{Done, Refused, Usage, ReadFault, WriteFault, NoMemory}
 
 -- A text is written whole, and a status answered; or the sink's count has risen, and a front of it is written.
-abbrev pub Said : End → End → List ℕ → Status → Status → Type 0
-Said sink sink' text status result = ((result ≡ status) × Appends sink.bytes sink'.bytes text) ⊎ ((result ≡ WriteFault) × HasRisen sink.faults sink'.faults × AppendsPrefix sink.bytes sink'.bytes text)
+abbrev pub WritesText : End → End → List ℕ → Status → Status → Type 0
+WritesText sink sink' text status result = ((result ≡ status) × Appends sink.bytes sink'.bytes text) ⊎ ((result ≡ WriteFault) × HasRisen sink.faults sink'.faults × AppendsPrefix sink.bytes sink'.bytes text)
 
 -- The sink has grown by the document of the input, which was read to its end. A document replays to
 -- itself: as an input it has the same document.
@@ -59,14 +58,14 @@ Replayed source source' sink sink' WriteFault = FailsWriting source sink sink'
 Replayed source source' sink sink' NoMemory = sink' ≡ sink
 
 -- The answer to words that are none of the stated forms: the source is left as it was.
-abbrev pub ToldUsage : End → End → End → End → Status → Type 0
-ToldUsage source source' sink sink' status = (source' ≡ source) × Said sink sink' usage_line Usage status
+abbrev pub GivesUsage : End → End → End → End → Status → Type 0
+GivesUsage source source' sink sink' status = (source' ≡ source) × WritesText sink sink' usage_line Usage status
 
 -- The answer to words other than `replay`: to `drive` the summary of the generated run, and the source is left as it was; to all
 -- others the usage.
 abbrev pub Unread : Option Asked → End → End → End → End → Status → Type 0
 Unread (Some asked) source source' sink sink' status = (source' ≡ source) × Driven asked sink sink' status
-Unread None source source' sink sink' status = ToldUsage source source' sink sink' status
+Unread None source source' sink sink' status = GivesUsage source source' sink sink' status
 
 abbrev pub Answered : List (String Global) → End → End → End → End → Status → Type 0
 Answered words source source' sink sink' status =
@@ -74,11 +73,11 @@ Answered words source source' sink sink' status =
 
 -- a refusal is written, unless there is no memory for its text
 abbrev pub Refusing : End → End → ℕ → Reason → Status → Type 0
-Refusing sink sink' number reason status = ((status ≡ NoMemory) × (sink' ≡ sink)) ⊎ Said sink sink' (refusal_line number reason) Refused status
+Refusing sink sink' number reason status = ((status ≡ NoMemory) × (sink' ≡ sink)) ⊎ WritesText sink sink' (refusal_line number reason) Refused status
 
 -- what is made of an input is written
 abbrev pub WritesMade : End → End → Made → Status → Type 0
-WritesMade sink sink' (Document text) status = Said sink sink' text.items Done status
+WritesMade sink sink' (Document text) status = WritesText sink sink' text.items Done status
 WritesMade sink sink' (Refusal number reason) status = Refusing sink sink' number reason status
 WritesMade sink sink' Nothing status = (status ≡ NoMemory) × (sink' ≡ sink)
 

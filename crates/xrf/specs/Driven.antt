@@ -1,12 +1,11 @@
 -- What `drive` answers, and what it has written then.
 use Rattle.std.specs.Prelude.{◌≡◌, ℕ, List}
 use Rattle.std.specs.Io.KnownBytes.{Appends}
-use Rattle.xrf_edge.specs.Ends.{AppendsPrefix}
+use Rattle.xrf_edge.specs.Ends.{End, AppendsPrefix}
 use Rattle.xrf_edge.specs.Faults.{HasRisen}
 use Rattle.xrf_trace.specs.declared.entry.Entry.{Entry}
 use Rattle.xrf_drive.specs.Drawn.{IsGenerated}
 use Rattle.xrf_report.specs.Summary.{summary_text}
-use Rattle.xrf.specs.Ends.{End}
 use Rattle.xrf.specs.declared.drive_words.Asked.{Asked}
 use Rattle.xrf.specs.declared.status.Status.{Status}
 use Rattle.xrf.specs.declared.status.Status.TheVariants.{Done, Refused, Usage, ReadFault, WriteFault, NoMemory}

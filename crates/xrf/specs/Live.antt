@@ -3,7 +3,7 @@ use Rattle.std.specs.Prelude.{◌≡◌, ◌⊎◌, ℕ, ◌≤◌, ◌<◌, Boo
 use Rattle.std.specs.Cmp.Lexicographic.{pointwise}
 use Rattle.std.specs.Global.{Global}
 use Rattle.std.specs.Io.KnownBytes.{Appends}
-use Rattle.xrf_edge.specs.Ends.{AppendsPrefix}
+use Rattle.xrf_edge.specs.Ends.{End, AppendsPrefix}
 use Rattle.xrf_edge.specs.Faults.{HasRisen}
 use Rattle.xrf_exit.specs.declared.ExitAnswer.{ExitAnswer}
 use Rattle.xrf_grammar.specs.declared.reason.Reason.TheVariants.{TooLarge, ChoicesGiven}
@@ -18,7 +18,6 @@ use Rattle.xrf_trace.specs.Safe.{Safe}
 use Rattle.xrf_trace.specs.Promises.{Promises}
 use Rattle.xrf_report.specs.Document.{doc}
 use Rattle.xrf_run.specs.Threaded.{IsThreadedRun}
-use Rattle.xrf.specs.Answer.{End}
 use Rattle.xrf.specs.Made.{IsDocument}
 use Rattle.xrf.specs.Refusals.{refusal_line}
 use Rattle.xrf.specs.declared.made.Made.{Made}
@@ -57,7 +56,7 @@ pub record HasChoice (bytes : List ℕ) (number : ℕ) : Type 0 where
   pub reads : Reads bytes scenario (first ∷ others)
   pub line : number ≡ first.line
 
--- The input is refused at a line for a reason: it is too large, which is said at line 0; or else its grammar is bad first
+-- The input is refused at a line for a reason: it is too large, which is answered at line 0; or else its grammar is bad first
 -- there; or else its first choice stands there.
 abbrev pub IsThreadedRefusal : List ℕ → ℕ → Reason → Type 0
 IsThreadedRefusal bytes number (Grammar reason) =

@@ -31,7 +31,7 @@ pub record Stops (bytes : List ℕ) (number : ℕ) (reason : Refused) : Type 0 w
   pub at : slice_get choices place ≡ Some stopping
   pub line : number ≡ stopping.line
 
--- The input is refused at a line for a reason: it is too large, which is said at line 0; or else its
+-- The input is refused at a line for a reason: it is too large, which is answered at line 0; or else its
 -- grammar is bad first there; or else the run stops there.
 abbrev pub IsRefusal : List ℕ → ℕ → Reason → Type 0
 IsRefusal bytes number (Grammar reason) = ((INPUT_MOST < length bytes) × (number ≡ 0) × (reason ≡ TooLarge)) ⊎ ((length bytes ≤ INPUT_MOST) × HasBad bytes number reason)

@@ -1,12 +1,11 @@
 //! The word `drive`: the summary of the generated run.
 
 ghost use Rattle.std.specs.Prelude.{◌≡◌, ◌≤◌, IfOk};
-ghost use Rattle.xrf.specs.Answer.{End};
 ghost use Rattle.xrf.specs.Driven.{Driven, IsSummary};
 
 use crate::drive_words::Asked;
 use crate::status::Status;
-use crate::top::say;
+use crate::top::write_text;
 use std::alloc::{AllocError, Global};
 use xrf_edge::Sink;
 use xrf_report::summary;
@@ -23,10 +22,10 @@ fn summary_of(alloc: Global, asked: Asked) -> Result<Vec<u8>, AllocError>
 /// Writes the summary of the generated run of a seed and so many turns.
 pub fn drive<K: Sink>(alloc: Global, asked: Asked, sink: &mut K) -> Status
     requires few { asked.turns ≤ CHOICES_MOST }
-    ensures { Driven asked (record { bytes = K.held sink.old; faults = K.faults sink.old }) (record { bytes = K.held sink.new; faults = K.faults sink.new }) result }
+    ensures { Driven asked (K.end sink.old) (K.end sink.new) result }
 {
     match summary_of(alloc, asked) {
-        Ok(text) => say(sink, &text, Status::Done),
+        Ok(text) => write_text(sink, &text, Status::Done),
         Err(_) => Status::NoMemory,
     }
 }

@@ -14,9 +14,9 @@ use std::alloc::{AllocError, Global};
 use std::sync::Wait;
 use std::thread::Threads;
 use xrf_edge::{ReadError, Sink, Source, read_all};
-use xrf_exit::{ExitAnswer, Notice};
+use xrf_exit::{ExitAnswer, Notice, StatusExit};
 use xrf_report::document;
-use xrf_run::{Gate, StatusExit, live};
+use xrf_run::{Gate, live};
 use xrf_scenario::{Numbered, ReadBad, Reason as Fault, Scenario, read};
 use xrf_setup::ranges::INPUT_MOST;
 
@@ -30,7 +30,7 @@ fn lived<R: Threads + Wait + Sync, G: Gate + Sync, F: Fn(Notice) -> ExitAnswer +
 ) -> Result<Made, AllocError>
     requires callable { F.IsAlwaysCallable exit.now.closure }
     requires allowed { AnswersAllowed (F.post exit.now.closure) }
-    ensures { (bytes : List ℕ) → length bytes ≤ INPUT_MOST → Reads bytes scenario.now [] → IfOk result (IsThreadedMade (λ said. F.post exit.now.closure AlternateLost said) bytes) }
+    ensures { (bytes : List ℕ) → length bytes ≤ INPUT_MOST → Reads bytes scenario.now [] → IfOk result (IsThreadedMade (λ answer. F.post exit.now.closure AlternateLost answer) bytes) }
 {
     let (world, choices) = live(rt, alloc, scenario, gate, exit)?;
     Ok(Made::Document(document(alloc, scenario, &choices, &world)?))
@@ -47,7 +47,7 @@ fn made_of_read<R: Threads + Wait + Sync, G: Gate + Sync, F: Fn(Notice) -> ExitA
 ) -> Result<Made, AllocError>
     requires callable { F.IsAlwaysCallable exit.now.closure }
     requires allowed { AnswersAllowed (F.post exit.now.closure) }
-    ensures { (bytes : List ℕ) → length bytes ≤ INPUT_MOST → Reads bytes scenario.now numbered.now → IfOk result (IsThreadedMade (λ said. F.post exit.now.closure AlternateLost said) bytes) }
+    ensures { (bytes : List ℕ) → length bytes ≤ INPUT_MOST → Reads bytes scenario.now numbered.now → IfOk result (IsThreadedMade (λ answer. F.post exit.now.closure AlternateLost answer) bytes) }
 {
     match numbered {
         [] => lived(rt, alloc, scenario, gate, exit),
@@ -65,7 +65,7 @@ fn made_of_text<R: Threads + Wait + Sync, G: Gate + Sync, F: Fn(Notice) -> ExitA
     requires size { length text.now ≤ INPUT_MOST }
     requires callable { F.IsAlwaysCallable exit.now.closure }
     requires allowed { AnswersAllowed (F.post exit.now.closure) }
-    ensures { IfOk result (IsThreadedMade (λ said. F.post exit.now.closure AlternateLost said) text.now) }
+    ensures { IfOk result (IsThreadedMade (λ answer. F.post exit.now.closure AlternateLost answer) text.now) }
 {
     match read(alloc, text) {
         Ok((scenario, numbered)) => made_of_read(rt, alloc, &scenario, &numbered, gate, exit),
@@ -85,7 +85,7 @@ fn made_by_threads<R: Threads + Wait + Sync, G: Gate + Sync, F: Fn(Notice) -> Ex
     requires size { length text.now ≤ INPUT_MOST }
     requires callable { F.IsAlwaysCallable exit.now.closure }
     requires allowed { AnswersAllowed (F.post exit.now.closure) }
-    ensures { IsThreadedMade (λ said. F.post exit.now.closure AlternateLost said) text.now result }
+    ensures { IsThreadedMade (λ answer. F.post exit.now.closure AlternateLost answer) text.now result }
 {
     match made_of_text(rt, alloc, text, gate, exit) {
         Ok(made) => made,
@@ -102,7 +102,7 @@ fn answer_run<
 >(rt: &R, alloc: Global, source: &mut S, sink: &mut K, gate: &G, exit: &StatusExit<F>) -> Status
     requires callable { F.IsAlwaysCallable exit.now.closure }
     requires allowed { AnswersAllowed (F.post exit.now.closure) }
-    ensures { Lived (λ said. F.post exit.now.closure AlternateLost said) (record { bytes = S.left source.old; faults = S.faults source.old }) (record { bytes = S.left source.new; faults = S.faults source.new }) (record { bytes = K.held sink.old; faults = K.faults sink.old }) (record { bytes = K.held sink.new; faults = K.faults sink.new }) result }
+    ensures { Lived (λ answer. F.post exit.now.closure AlternateLost answer) (S.end source.old) (S.end source.new) (K.end sink.old) (K.end sink.new) result }
 {
     match read_all(alloc, source, INPUT_MOST) {
         Ok(text) => write_made(alloc, sink, made_by_threads(rt, alloc, &text, gate, exit)),
@@ -126,8 +126,8 @@ pub fn live_command<
 >(rt: &R, alloc: Global, source: &mut S, sink: &mut K, gate: &G, exit: &StatusExit<F>) -> Status
     requires callable { F.IsAlwaysCallable exit.now.closure }
     requires allowed { AnswersAllowed (F.post exit.now.closure) }
-    ensures lived { Lived (λ said. F.post exit.now.closure AlternateLost said) (record { bytes = S.left source.old; faults = S.faults source.old }) (record { bytes = S.left source.new; faults = S.faults source.new }) (record { bytes = K.held sink.old; faults = K.faults sink.old }) (record { bytes = K.held sink.new; faults = K.faults sink.new }) result }
-    ensures complete { LivesThrough (record { bytes = S.left source.old; faults = S.faults source.old }) (record { bytes = S.left source.new; faults = S.faults source.new }) (record { bytes = K.held sink.old; faults = K.faults sink.old }) (record { bytes = K.held sink.new; faults = K.faults sink.new }) result }
+    ensures lived { Lived (λ answer. F.post exit.now.closure AlternateLost answer) (S.end source.old) (S.end source.new) (K.end sink.old) (K.end sink.new) result }
+    ensures complete { LivesThrough (S.end source.old) (S.end source.new) (K.end sink.old) (K.end sink.new) result }
 {
     answer_run(rt, alloc, source, sink, gate, exit)
 }

@@ -7,8 +7,8 @@ use std::sync::Wait;
 use std::test::Fail;
 use std::thread::Threads;
 use xrf_edge::{MemSink, MemSource};
-use xrf_exit::{ExitAnswer, Notice};
-use xrf_run::{OpenGate, StatusExit};
+use xrf_exit::{ExitAnswer, Notice, StatusExit};
+use xrf_run::OpenGate;
 
 const TAKEOVER: &[u8] = b"XRF 1
 TAKEOVR AUTO

@@ -8,6 +8,7 @@ ghost use Rattle.xrf.specs.declared.refusal.Reason.TheVariants.{Choosing};
 ghost use Rattle.xrf.specs.Refusals.{plain};
 ghost use Rattle.xrf_scenario.specs.Canonical.{AreChoices};
 ghost use Rattle.xrf_scenario.specs.Reading.{Reads};
+ghost use Rattle.xrf_trace.specs.Scenario.{IsScen};
 
 use crate::refusal::Reason;
 use crate::running::{Stop, make_all};
@@ -45,6 +46,26 @@ fn stopped(numbered: &[Numbered], stop: Stop) -> Made
     Made::Refusal(numbered[stop.place].line, Reason::Choosing(stop.reason))
 }
 
+// the document of the choices that a World makes, or the refusal of one of them
+fn made_in(
+    alloc: Global,
+    scenario: &Scenario,
+    numbered: &[Numbered],
+    choices: &[Choice],
+    world: &mut World,
+) -> Result<Made, AllocError>
+    requires scenario { IsScen scenario.now }
+    requires fresh { world.old ≡ record { scenario = scenario.now; trace = [] } }
+    requires plain { choices.now ≡ plain numbered.now }
+    requires choices { AreChoices (plain numbered.now) }
+    ensures { (bytes : List ℕ) → length bytes ≤ INPUT_MOST → Reads bytes scenario.now numbered.now → IfOk result (IsMade bytes) }
+{
+    match make_all(world, choices) {
+        Ok(()) => Ok(Made::Document(document(alloc, scenario, choices, world)?)),
+        Err(stop) => Ok(stopped(numbered, stop)),
+    }
+}
+
 // the document of a scenario and its choices, or the refusal of one of them
 fn ran(alloc: Global, scenario: &Scenario, numbered: &[Numbered]) -> Result<Made, AllocError>
     requires choices { AreChoices (plain numbered.now) }
@@ -52,10 +73,7 @@ fn ran(alloc: Global, scenario: &Scenario, numbered: &[Numbered]) -> Result<Made
 {
     let choices = plain(alloc, numbered)?;
     let mut world = World::new(alloc, scenario)?;
-    match make_all(&mut world, &choices) {
-        Ok(()) => Ok(Made::Document(document(alloc, scenario, &choices, &world)?)),
-        Err(stop) => Ok(stopped(numbered, stop)),
-    }
+    made_in(alloc, scenario, numbered, &choices, &mut world)
 }
 
 fn made_of_text(alloc: Global, text: &[u8]) -> Result<Made, AllocError>

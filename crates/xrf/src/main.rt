@@ -23,8 +23,8 @@ use status::Status;
 use std::process::ExitCode;
 use std::{env, io};
 use xrf_edge::{StdSink, StdSource};
-use xrf_exit::{ExitAnswer, Notice};
-use xrf_run::{OpenGate, StatusExit};
+use xrf_exit::{ExitAnswer, Notice, StatusExit};
+use xrf_run::OpenGate;
 
 // The status where the runtime refuses the list of words for another cause than want of memory.
 const NO_WORDS: u8 = 28;

@@ -14,8 +14,8 @@ use std::alloc::Global;
 use std::sync::Wait;
 use std::thread::Threads;
 use xrf_edge::{Sink, Source};
-use xrf_exit::{ExitAnswer, Notice};
-use xrf_run::{Gate, StatusExit};
+use xrf_exit::{ExitAnswer, Notice, StatusExit};
+use xrf_run::Gate;
 
 fn is_run_word(word: &str) -> bool
     ensures { result ≡ pointwise nat_eq word.now (codes "run") }
@@ -51,8 +51,8 @@ pub fn xrf_top<
 ) -> Status
     requires callable { F.IsAlwaysCallable exit.now.closure }
     requires allowed { AnswersAllowed (F.post exit.now.closure) }
-    ensures answered { TopAnswered (λ said. F.post exit.now.closure AlternateLost said) words.now (record { bytes = S.left source.old; faults = S.faults source.old }) (record { bytes = S.left source.new; faults = S.faults source.new }) (record { bytes = K.held sink.old; faults = K.faults sink.old }) (record { bytes = K.held sink.new; faults = K.faults sink.new }) result }
-    ensures complete { TopComplete words.now (record { bytes = S.left source.old; faults = S.faults source.old }) (record { bytes = S.left source.new; faults = S.faults source.new }) (record { bytes = K.held sink.old; faults = K.faults sink.old }) (record { bytes = K.held sink.new; faults = K.faults sink.new }) result }
+    ensures answered { TopAnswered (λ answer. F.post exit.now.closure AlternateLost answer) words.now (S.end source.old) (S.end source.new) (K.end sink.old) (K.end sink.new) result }
+    ensures complete { TopComplete words.now (S.end source.old) (S.end source.new) (K.end sink.old) (K.end sink.new) result }
 {
     if asks_run(words) {
         live_command(rt, alloc, source, sink, gate, exit)

@@ -3,7 +3,7 @@
 ghost use Rattle.std.specs.Prelude.{◌≡◌, ◌≤◌, false, true, nat_eq, string_bytes, codes};
 ghost use Rattle.std.specs.Cmp.Lexicographic.{pointwise};
 ghost use Rattle.xrf.specs.Words.{is_replay, usage_line};
-ghost use Rattle.xrf.specs.Answer.{End, Answered, Said, Refusing, WritesMade, Replayed, Complete, HasAnswer, OneText, OneRefusal, NeverRefused};
+ghost use Rattle.xrf.specs.Answer.{Answered, WritesText, Refusing, WritesMade, Replayed, Complete, HasAnswer, OneText, OneRefusal, NeverRefused};
 
 use crate::drive_words::drive_asked;
 use crate::driven::drive;
@@ -33,8 +33,8 @@ fn asks_replay(words: &[String]) -> bool
 }
 
 // writes a text, and answers a status where it is written whole
-pub(crate) fn say<K: Sink>(sink: &mut K, text: &[u8], status: Status) -> Status
-    ensures { Said (record { bytes = K.held sink.old; faults = K.faults sink.old }) (record { bytes = K.held sink.new; faults = K.faults sink.new }) text.now status result }
+pub(crate) fn write_text<K: Sink>(sink: &mut K, text: &[u8], status: Status) -> Status
+    ensures { WritesText (K.end sink.old) (K.end sink.new) text.now status result }
 {
     match write_all(sink, text) {
         Ok(()) => status,
@@ -43,26 +43,26 @@ pub(crate) fn say<K: Sink>(sink: &mut K, text: &[u8], status: Status) -> Status
 }
 
 pub(crate) fn refuse<K: Sink>(alloc: Global, sink: &mut K, number: u32, reason: Reason) -> Status
-    ensures { Refusing (record { bytes = K.held sink.old; faults = K.faults sink.old }) (record { bytes = K.held sink.new; faults = K.faults sink.new }) number reason result }
+    ensures { Refusing (K.end sink.old) (K.end sink.new) number reason result }
 {
     match refusal_text(alloc, number, reason) {
-        Ok(text) => say(sink, &text, Status::Refused),
+        Ok(text) => write_text(sink, &text, Status::Refused),
         Err(_) => Status::NoMemory,
     }
 }
 
 pub(crate) fn write_made<K: Sink>(alloc: Global, sink: &mut K, made: Made) -> Status
-    ensures { WritesMade (record { bytes = K.held sink.old; faults = K.faults sink.old }) (record { bytes = K.held sink.new; faults = K.faults sink.new }) made result }
+    ensures { WritesMade (K.end sink.old) (K.end sink.new) made result }
 {
     match made {
-        Made::Document(text) => say(sink, &text, Status::Done),
+        Made::Document(text) => write_text(sink, &text, Status::Done),
         Made::Refusal(number, reason) => refuse(alloc, sink, number, reason),
         Made::NoMemory => Status::NoMemory,
     }
 }
 
 fn replay<S: Source, K: Sink>(alloc: Global, source: &mut S, sink: &mut K) -> Status
-    ensures { Replayed (record { bytes = S.left source.old; faults = S.faults source.old }) (record { bytes = S.left source.new; faults = S.faults source.new }) (record { bytes = K.held sink.old; faults = K.faults sink.old }) (record { bytes = K.held sink.new; faults = K.faults sink.new }) result }
+    ensures { Replayed (S.end source.old) (S.end source.new) (K.end sink.old) (K.end sink.new) result }
 {
     match read_all(alloc, source, INPUT_MOST) {
         Ok(text) => write_made(alloc, sink, made_of(alloc, &text)),
@@ -78,14 +78,14 @@ fn answer<S: Source, K: Sink>(
     source: &mut S,
     sink: &mut K,
 ) -> Status
-    ensures answered { Answered words.now (record { bytes = S.left source.old; faults = S.faults source.old }) (record { bytes = S.left source.new; faults = S.faults source.new }) (record { bytes = K.held sink.old; faults = K.faults sink.old }) (record { bytes = K.held sink.new; faults = K.faults sink.new }) result }
+    ensures answered { Answered words.now (S.end source.old) (S.end source.new) (K.end sink.old) (K.end sink.new) result }
 {
     if asks_replay(words) {
         return replay(alloc, source, sink);
     }
     match drive_asked(words) {
         Some(asked) => drive(alloc, asked, sink),
-        None => say(sink, USAGE, Status::Usage),
+        None => write_text(sink, USAGE, Status::Usage),
     }
 }
 
@@ -101,8 +101,8 @@ pub fn batch<S: Source, K: Sink>(
     source: &mut S,
     sink: &mut K,
 ) -> Status
-    ensures answered { Answered words.now (record { bytes = S.left source.old; faults = S.faults source.old }) (record { bytes = S.left source.new; faults = S.faults source.new }) (record { bytes = K.held sink.old; faults = K.faults sink.old }) (record { bytes = K.held sink.new; faults = K.faults sink.new }) result }
-    ensures complete { Complete words.now (record { bytes = S.left source.old; faults = S.faults source.old }) (record { bytes = S.left source.new; faults = S.faults source.new }) (record { bytes = K.held sink.old; faults = K.faults sink.old }) (record { bytes = K.held sink.new; faults = K.faults sink.new }) result }
+    ensures answered { Answered words.now (S.end source.old) (S.end source.new) (K.end sink.old) (K.end sink.new) result }
+    ensures complete { Complete words.now (S.end source.old) (S.end source.new) (K.end sink.old) (K.end sink.new) result }
 {
     answer(alloc, words, source, sink)
 }

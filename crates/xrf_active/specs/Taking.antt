@@ -3,6 +3,7 @@ use Rattle.std.specs.Prelude.{◌≡◌, ◌<◌, true, List, length}
 use Rattle.xrf_log.specs.Scan.{anchor_of}
 use Rattle.xrf_history.specs.declared.answer.Answer.{Answer}
 use Rattle.xrf_history.specs.declared.answer.Answer.TheVariants as answer
+use Rattle.xrf_history.specs.declared.settings.Settings.{Settings}
 use Rattle.xrf_history.specs.Events.{Event}
 use Rattle.xrf_history.specs.Accepting.{may_take, IsInTime}
 use Rattle.xrf_job.specs.declared.stage.Stage.{Stage}
@@ -33,12 +34,16 @@ LeavesItemOpen (stages.LogOpen place rec) = ⊥
 LeavesItemOpen (stages.FileWrite unit rrn value) = ⊥
 LeavesItemOpen _ = Unit {0}
 
-pub record CanTake (job : Active) (h : List Event) (a : Answer) : Type 0 where
-  pub stands : Stands job h
+-- when a job with a history may be handed an answer
+pub record MayBeHanded (p : Settings) (h : List Event) (a : Answer) : Type 0 where
   -- the answer fits the act, or is of a tick or of a choice that reaches it
-  pub fitting : may_take job.settings h a ≡ true
+  pub fitting : may_take p h a ≡ true
   -- beside its START it has taken fewer than 16,384 answers
   pub few : length h < 16385
   pub in_time : IsInTime h a
   pub room : LeavesRoom a
   pub small_keys : HasSmallKeys a
+
+pub record CanTake (job : Active) (h : List Event) (a : Answer) : Type 0 where
+  pub stands : Stands job h
+  pub handed : MayBeHanded job.settings h a

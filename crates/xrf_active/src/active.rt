@@ -3,6 +3,7 @@
 ghost use Rattle.std.specs.Prelude.{◌≡◌, ℕ, ◌+◌, ◌<◌, [], ◌∷◌, List, Option, Some, None, true, false, is_some, length};
 ghost use Rattle.xrf_history.specs.Events.{Event, StartedActive, Ticked, Abended};
 ghost use Rattle.xrf_history.specs.Holding.{number, is_restarted};
+ghost use Rattle.xrf_history.specs.Looking.{change};
 ghost use Rattle.xrf_history.specs.Terminals.{table};
 ghost use Rattle.xrf_history.specs.Reserving.{last_decision, sign_off_due};
 ghost use Rattle.xrf_history.specs.Notices.{notice};
@@ -11,13 +12,13 @@ ghost use Rattle.xrf_job.specs.Rooms.{AreFor};
 ghost use Rattle.xrf_active.specs.Standing.{Stands};
 
 use crate::sending::Sending;
-use xrf_base::{Inc, ItemAnswer};
+use xrf_base::{Inc, ItemAnswer, Tick};
 use xrf_cavm::Decided;
 use xrf_ctl::OwnerState;
 use xrf_exit::Notice;
 use xrf_file::Plan;
 use xrf_history::{Settings, Want};
-use xrf_job::{Common, Purpose, Rooms};
+use xrf_job::{Common, Rooms};
 use xrf_logrec::Keypoint;
 use xrf_terms::TermTable;
 
@@ -58,7 +59,7 @@ impl Active {
         rooms.clear();
         Active {
             settings: *settings,
-            common: Common::start(Purpose::SignOnActive),
+            common: Common::start(),
             rooms,
             sign_off: None,
             notice: None,
@@ -122,6 +123,13 @@ impl Active {
         ensures { (h : List Event) → Stands self.now h → result ≡ last_decision h }
     {
         self.common.decided
+    }
+
+    /// The tick of the last change of what it saw of the other site.
+    pub fn last_change(&self) -> Tick
+        ensures { (h : List Event) → Stands self.now h → result ≡ change h }
+    {
+        self.common.watch.last_change()
     }
 
     /// The notice that is pending.

@@ -3,11 +3,12 @@ use Rattle.std.proofs.Common.{◌≡◌, ℕ, List, [], ◌∷◌, Option, Some,
 use Rattle.std.proofs.lemmas.Slice.Eq.{bytes_eq-Decides}
 use Rattle.std.specs.Str.{bytes_eq}
 use Rattle.xrf_base.specs.Names.{IsName, is_name}
+use Rattle.xrf_text.specs.Text.{are_some}
 use Rattle.xrf_clt.specs.declared.CltKind.{CltKind}
 use Rattle.xrf_clt.specs.declared.CltKind.TheVariants.{Cancel, Command, Wto}
 use Rattle.xrf_clt.specs.declared.CltReason.{CltReason}
 use Rattle.xrf_clt.specs.declared.CltReason.TheVariants.{BadName, BadOption, WordCount}
-use Rattle.xrf_clt.specs.Lines.{Line, IsLine, kind_word, AreOperands, line_words, is_cancel, is_kind, has_more, fault_of}
+use Rattle.xrf_clt.specs.Lines.{Line, IsLine, kind_word, AreOperands, line_words, is_cancel, is_kind, fault_of}
 
 -- the line that some words spell
 pub record Spelled (ws : List (List ℕ)) : Type 0 where
@@ -27,7 +28,7 @@ same : (word key : List ℕ) → bytes_eq word key ≡ true → word ≡ key
 same word key e = (bytes_eq-Decides word key).0 e
 
 -- a line that cancels
-cancels : (applid kind operand : List ℕ) (more : List (List ℕ)) → is_cancel kind ≡ true → has_more more ≡ false → IsName applid → IsName operand
+cancels : (applid kind operand : List ℕ) (more : List (List ℕ)) → is_cancel kind ≡ true → are_some more ≡ false → IsName applid → IsName operand
     → Spelled (applid ∷ kind ∷ operand ∷ more)
 cancels applid kind operand [] cancel none name operand_name = record {
   line = record { applid = applid; kind = Cancel; operands = operand ∷ [] };
@@ -50,7 +51,7 @@ others applid kind operand more false e is name = record {
   words_are = ap (λ (k : List ℕ). applid ∷ k ∷ operand ∷ more) (same kind (codes "WTO") is);
 }
 
-by_cancel : (applid kind operand : List ℕ) (more : List (List ℕ)) (cancel : Bool) → is_cancel kind ≡ cancel → (cancel && has_more more) ≡ false → IsName applid
+by_cancel : (applid kind operand : List ℕ) (more : List (List ℕ)) (cancel : Bool) → is_cancel kind ≡ cancel → (cancel && are_some more) ≡ false → IsName applid
     → (cancel && not (is_name operand)) ≡ false → not (cancel || bytes_eq kind (codes "COMMAND") || bytes_eq kind (codes "WTO")) ≡ false
     → Spelled (applid ∷ kind ∷ operand ∷ more)
 by_cancel applid kind operand more true e count name operand_name is = cancels applid kind operand more e count name (not_wrong (is_name operand) operand_name)
@@ -63,7 +64,7 @@ faultless [] e = cc
 faultless (applid ∷ []) e = cc
 faultless (applid ∷ kind ∷ []) e = cc
 faultless (applid ∷ kind ∷ operand ∷ more) e =
-    let count = none_if (is_cancel kind && has_more more) WordCount _ e in
+    let count = none_if (is_cancel kind && are_some more) WordCount _ e in
     let name = none_if (not (is_name applid)) BadName _ count.1 in
     let operand_name = none_if (is_cancel kind && not (is_name operand)) BadName _ name.1 in
     let is = none_if (not (is_kind kind)) BadOption None operand_name.1 in

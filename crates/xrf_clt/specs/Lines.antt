@@ -3,6 +3,7 @@ use Rattle.std.specs.Prelude.{◌≢◌, ℕ, Bool, true, false, ◌&&◌, ◌||
 use Rattle.std.specs.List.{join_with_byte}
 use Rattle.std.specs.Str.{bytes_eq}
 use Rattle.xrf_base.specs.Names.{IsName, is_name}
+use Rattle.xrf_text.specs.Text.{are_some}
 use Rattle.xrf_clt.specs.Kept.{Kept}
 use Rattle.xrf_clt.specs.declared.CltKind.{CltKind}
 use Rattle.xrf_clt.specs.declared.CltKind.TheVariants.{Cancel, Command, Wto}
@@ -50,10 +51,6 @@ is_cancel word = bytes_eq word (codes "CANCEL")
 abbrev pub is_kind : List ℕ → Bool
 is_kind word = is_cancel word || bytes_eq word (codes "COMMAND") || bytes_eq word (codes "WTO")
 
-abbrev pub has_more : List (List ℕ) → Bool
-has_more [] = false
-has_more (word ∷ more) = true
-
 -- The first reason for which some words are no line: too few words or too many, then a name that
 -- is none, then a word that is no kind. No word behind a wrong kind is tested.
 abbrev pub fault_of : List (List ℕ) → Option CltReason
@@ -61,7 +58,7 @@ fault_of [] = Some WordCount
 fault_of (applid ∷ []) = Some WordCount
 fault_of (applid ∷ kind ∷ []) = Some WordCount
 fault_of (applid ∷ kind ∷ operand ∷ more) =
-    if is_cancel kind && has_more more then Some WordCount else
+    if is_cancel kind && are_some more then Some WordCount else
     (if not (is_name applid) then Some BadName else
     (if is_cancel kind && not (is_name operand) then Some BadName else
     (if not (is_kind kind) then Some BadOption else None)))

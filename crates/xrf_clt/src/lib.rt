@@ -6,14 +6,14 @@ ghost use Rattle.std.specs.List.{AllByRecursion, join_with_byte};
 ghost use Rattle.xrf_text.specs.Text.{lines, words};
 ghost use Rattle.xrf_clt.specs.Kept.{kept_of};
 ghost use Rattle.xrf_clt.specs.Table.{AreKept, IsError, texts_for, with_blanks};
-ghost use Rattle.xrf_clt.specs.Lines.{IsLine, Line, line_words, words_kept, fault_of, has_more, is_cancel, is_kind, kind_word};
+ghost use Rattle.xrf_clt.specs.Lines.{IsLine, Line, line_words, words_kept, fault_of, is_cancel, is_kind, kind_word};
 
 use std::alloc::{AllocError, Global};
 use std::marker::Model;
 use thiserror::Error;
 use xrf_base::Name8;
 use xrf_base::names::spells_name;
-use xrf_text::{split_line, split_word};
+use xrf_text::{has_word, split_line, split_word};
 
 /// What a line of the list does.
 #[derive(Clone, Copy, Debug, PartialEq, Eq)]
@@ -77,13 +77,6 @@ fn names_cancel(word: &[u8]) -> bool
     ensures { result ≡ is_cancel word.now }
 {
     word == CltKind::Cancel.word()
-}
-
-/// Whether a line has a word.
-fn has_word(line: &[u8]) -> bool
-    ensures { result ≡ has_more (words line.now) }
-{
-    split_word(line).is_some()
 }
 
 /// The applid of a line and what follows it, or the first reason for which it is no line.
@@ -243,12 +236,16 @@ impl Clt {
     }
 
     /// Adds a line, which is one of the command list without its word CLT.
+    #[tactic(auto, using(crate::proofs::Joining::kept_more))]
     pub fn add(&mut self, alloc: Global, line: &[u8]) -> Result<(), AllocError>
         requires { fault_of (words line.now) ≡ None }
         ensures ok { OnOk result (self.new ≡ self.old ++ words_kept (words line.now) ∷ []) }
         ensures err { OnErr result (self.new ≡ self.old) }
     {
-        let Ok((applid, order)) = parse(line) else {
+        let Some((applid, order)) = split_word(line) else {
+            unreachable!()
+        };
+        let Some(applid) = Name8::read(applid) else {
             unreachable!()
         };
         let text = joined(alloc, order)?;

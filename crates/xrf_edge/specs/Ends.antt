@@ -1,6 +1,11 @@
--- what a whole read and a whole write do to the bytes that a source has left and a sink holds, where they are told
+-- an end, and what a whole read and a whole write do to the bytes that it tells
 use Rattle.std.specs.Prelude.{◌≡◌, ◌-◌, ℕ, List, [], length, take, Option, Some, IfSome}
 use Rattle.std.specs.Io.KnownBytes.{Appends, Consumes}
+
+-- a source or a sink: its bytes where it tells them, left in a source or held in a sink; and how often it has failed
+pub record End : Type 0 where
+  pub bytes : Option (List ℕ)
+  pub faults : ℕ
 
 -- the bytes are all that was left, and none is left
 abbrev pub ReadToEnd : Option (List ℕ) → Option (List ℕ) → List ℕ → Type 0

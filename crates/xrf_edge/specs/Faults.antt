@@ -18,19 +18,19 @@ abbrev pub last_call : ℕ
 last_call = 4294967295
 
 -- which calls fail, by their numbers from 1; how many calls were counted; how many faults
-pub record Plan : Type 0 where
+pub record Schedule : Type 0 where
   pub fails : List ℕ
   pub calls : ℕ
   pub faults : ℕ
 
 -- the next call is counted, and its number is among those that fail
-abbrev pub NextFails : Plan → Type 0
+abbrev pub NextFails : Schedule → Type 0
 NextFails p = (p.calls < last_call) × Contains p.fails (p.calls + 1)
 
 -- after one more call
-abbrev pub after_call : Plan → Plan
+abbrev pub after_call : Schedule → Schedule
 after_call p = record p { calls = min (p.calls + 1) last_call }
 
 -- after one more fault
-abbrev pub after_fault : Plan → Plan
+abbrev pub after_fault : Schedule → Schedule
 after_fault p = record p { faults = next_count p.faults }

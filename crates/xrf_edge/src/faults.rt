@@ -1,4 +1,4 @@
-// Faults, and the plan of those of an end in memory.
+// Faults, and the schedule of those of an end in memory.
 ghost use Rattle.std.specs.Prelude.{◌≡◌, ◌≤◌, ◌↔◌, IsTrue};
 ghost use Rattle.xrf_edge.specs.Faults.{NextFails, after_call, after_fault};
 
@@ -10,25 +10,25 @@ pub struct Failed;
 
 /// Which calls fail, by their numbers from 1, how many were counted, and how many failed.
 #[derive(Drop)]
-pub(crate) struct FaultPlan {
+pub(crate) struct FaultSchedule {
     fails: Vec<u32>,
     calls: u32,
     faults: u64,
 }
 
-impl Model for FaultPlan {
-    ghost use Rattle.xrf_edge.specs.Faults.{Plan};
+impl Model for FaultSchedule {
+    ghost use Rattle.xrf_edge.specs.Faults.{Schedule};
 
-    ghost Value = { Plan };
+    ghost Value = { Schedule };
 
     ghost view = { λ p. record { fails = p.fails.items; calls = p.calls; faults = p.faults } };
 }
 
-impl FaultPlan {
+impl FaultSchedule {
     pub(crate) fn new(fails: Vec<u32>) -> Self
         ensures { result ≡ record { fails = fails.items; calls = 0; faults = 0 } }
     {
-        FaultPlan {
+        FaultSchedule {
             fails,
             calls: 0,
             faults: 0,

@@ -3,7 +3,7 @@ ghost use Rattle.std.specs.Prelude.{◌≡◌, ◌≤◌, ◌<◌, ◌↔◌, le
 ghost use Rattle.std.specs.Io.KnownBytes.{ReadConsumes, WriteAppends};
 ghost use Rattle.xrf_edge.specs.Faults.{HasRisen, NextFails, after_call, after_fault};
 
-use crate::faults::FaultPlan;
+use crate::faults::FaultSchedule;
 use crate::{Failed, Sink, Source};
 use std::alloc::{AllocError, Global};
 use std::marker::Model;
@@ -14,7 +14,7 @@ pub struct MemSource {
     bytes: Vec<u8>,
     taken: usize,
     piece: usize,
-    plan: FaultPlan,
+    schedule: FaultSchedule,
 }
 
 impl Model for MemSource {
@@ -23,7 +23,7 @@ impl Model for MemSource {
 
     ghost Value = { Supply };
 
-    ghost view = { λ s. record { left = drop s.taken s.bytes.items; piece = s.piece; plan = s.plan } };
+    ghost view = { λ s. record { left = drop s.taken s.bytes.items; piece = s.piece; schedule = s.schedule } };
 
     ghost invariant = { λ s. (s.taken ≤ length s.bytes.items) × (0 < s.piece) };
 }
@@ -40,7 +40,7 @@ impl MemSource {
             bytes,
             taken: 0,
             piece,
-            plan: FaultPlan::new(fails),
+            schedule: FaultSchedule::new(fails),
         }
     }
 }
@@ -48,26 +48,24 @@ impl MemSource {
 impl Source for MemSource {
     ghost use Rattle.xrf_edge.specs.Memory.{supply_count, after_read};
 
-    ghost left = { λ s. Some s.left };
-
-    ghost faults = { λ s. s.plan.faults };
+    ghost end = { λ s. record { bytes = Some s.left; faults = s.schedule.faults } };
 
     fn read(&mut self, into: &mut [u8]) -> Result<usize, Failed>
-        ensures failed { IsErr result ↔ NextFails self.old.plan }
+        ensures failed { IsErr result ↔ NextFails self.old.schedule }
         ensures taken { IfOk result (λ n. n ≡ supply_count self.old (length into.old)) }
         ensures front { IfOk result (λ n. take n into.new ≡ take n self.old.left) }
         ensures behind { IfOk result (λ n. drop n into.new ≡ drop n into.old) }
         ensures ok { IfOk result (λ n. self.new ≡ after_read self.old n) }
-        ensures err { OnErr result (self.new ≡ record self.old { plan = after_fault (after_call self.old.plan) }) }
+        ensures err { OnErr result (self.new ≡ record self.old { schedule = after_fault (after_call self.old.schedule) }) }
 
         // As for every source.
         ensures within { IfOk result (λ n. n ≤ length into.new) }
         ensures bytes { ReadConsumes (Some self.old.left) (Some self.new.left) result into.new }
-        ensures cause { OnErr result (HasRisen self.old.plan.faults self.new.plan.faults) }
-        ensures count { self.old.plan.faults ≤ self.new.plan.faults }
+        ensures cause { OnErr result (HasRisen self.old.schedule.faults self.new.schedule.faults) }
+        ensures count { self.old.schedule.faults ≤ self.new.schedule.faults }
     {
-        if self.plan.call() {
-            self.plan.fail();
+        if self.schedule.call() {
+            self.schedule.fail();
             return Err(Failed);
         }
         let n = copy_piece(&self.bytes[self.taken..], into, self.piece);
@@ -94,7 +92,7 @@ pub struct MemSink {
     held: Vec<u8>,
     room: usize,
     piece: usize,
-    plan: FaultPlan,
+    schedule: FaultSchedule,
 }
 
 impl Model for MemSink {
@@ -103,7 +101,7 @@ impl Model for MemSink {
 
     ghost Value = { Store };
 
-    ghost view = { λ s. record { held = s.held.items; room = s.room; piece = s.piece; plan = s.plan } };
+    ghost view = { λ s. record { held = s.held.items; room = s.room; piece = s.piece; schedule = s.schedule } };
 
     ghost invariant = { λ s. (length s.held.items ≤ s.room) × (s.room ≤ vec_capacity s.held) × (0 < s.piece) };
 }
@@ -127,7 +125,7 @@ impl MemSink {
             held,
             room,
             piece,
-            plan: FaultPlan::new(fails),
+            schedule: FaultSchedule::new(fails),
         })
     }
 
@@ -143,26 +141,24 @@ impl MemSink {
 impl Sink for MemSink {
     ghost use Rattle.xrf_edge.specs.Memory.{store_count, after_write, WriteFails};
 
-    ghost held = { λ s. Some s.held };
-
-    ghost faults = { λ s. s.plan.faults };
+    ghost end = { λ s. record { bytes = Some s.held; faults = s.schedule.faults } };
 
     fn write(&mut self, from: &[u8]) -> Result<usize, Failed>
         ensures failed { IsErr result ↔ WriteFails self.old from.now }
         ensures taken { IfOk result (λ n. n ≡ store_count self.old (length from.now)) }
         ensures ok { IfOk result (λ n. self.new ≡ after_write self.old (take n from.now)) }
-        ensures err { OnErr result (self.new ≡ record self.old { plan = after_fault (after_call self.old.plan) }) }
+        ensures err { OnErr result (self.new ≡ record self.old { schedule = after_fault (after_call self.old.schedule) }) }
 
         // As for every sink.
         ensures within { IfOk result (λ n. n ≤ length from.now) }
         ensures goes_on { IfOk result (λ n. 0 < length from.now → 0 < n) }
         ensures bytes { WriteAppends (Some self.old.held) (Some self.new.held) result from.now }
-        ensures cause { OnErr result (HasRisen self.old.plan.faults self.new.plan.faults) }
-        ensures count { self.old.plan.faults ≤ self.new.plan.faults }
+        ensures cause { OnErr result (HasRisen self.old.schedule.faults self.new.schedule.faults) }
+        ensures count { self.old.schedule.faults ≤ self.new.schedule.faults }
     {
         let left = self.room - self.held.len();
-        if self.plan.call() || (left == 0 && !from.is_empty()) {
-            self.plan.fail();
+        if self.schedule.call() || (left == 0 && !from.is_empty()) {
+            self.schedule.fail();
             return Err(Failed);
         }
         let n = self.piece.min(from.len()).min(left);

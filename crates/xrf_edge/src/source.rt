@@ -1,7 +1,7 @@
 // Where bytes come from.
-ghost use Rattle.std.specs.Prelude.{◌≡◌, ◌≤◌, ◌<◌, ◌↔◌, List, ℕ, length, Option, Some, IfOk, IfSome, OnErr, IsErrOf};
+ghost use Rattle.std.specs.Prelude.{◌≡◌, ◌≤◌, ◌<◌, ◌↔◌, length, IfOk, IfSome, OnErr, IsErrOf};
 ghost use Rattle.std.specs.Io.KnownBytes.{ReadConsumes};
-ghost use Rattle.xrf_edge.specs.Ends.{ReadToEnd, TakesPrefix, came};
+ghost use Rattle.xrf_edge.specs.Ends.{End, ReadToEnd, TakesPrefix, came};
 ghost use Rattle.xrf_edge.specs.Faults.{HasRisen};
 
 use crate::Failed;
@@ -13,19 +13,17 @@ const PIECE: usize = 4096;
 
 /// A source of bytes. It may tell the bytes that it has left, and it counts its faults.
 pub trait Source {
-    /// The bytes that reads have not taken, where the source tells them.
-    ghost left: { Self → Option (List ℕ) };
-
-    /// How often the source has failed. The count never falls, and stays at 2^64 - 1.
-    ghost faults: { Self → ℕ };
+    /// The bytes that reads have not taken, where the source tells them, and how often it has
+    /// failed. The count never falls, and stays at 2^64 - 1.
+    ghost end: { Self → End };
 
     /// Takes the next bytes into the front of the slice, and answers how many. It answers 0 with
     /// room in the slice only at the end. Where it fails it takes nothing.
     fn read(&mut self, into: &mut [u8]) -> Result<usize, Failed>
         ensures within { IfOk result (λ n. n ≤ length into.new) }
-        ensures bytes { ReadConsumes (left self.old) (left self.new) result into.new }
-        ensures cause { OnErr result (HasRisen (faults self.old) (faults self.new)) }
-        ensures count { faults self.old ≤ faults self.new };
+        ensures bytes { ReadConsumes (end self.old).bytes (end self.new).bytes result into.new }
+        ensures cause { OnErr result (HasRisen (end self.old).faults (end self.new).faults) }
+        ensures count { (end self.old).faults ≤ (end self.new).faults };
 }
 
 /// Why a source could not be read to its end.
@@ -46,16 +44,16 @@ pub enum ReadError {
 /// has been taken.
 pub fn read_all<S: Source>(alloc: Global, source: &mut S, max: usize) -> Result<Vec<u8>, ReadError>
     // Ok is all that was left.
-    ensures all { IfOk result (λ bytes. ReadToEnd (S.left source.old) (S.left source.new) bytes.items) }
+    ensures all { IfOk result (λ bytes. ReadToEnd (S.end source.old).bytes (S.end source.new).bytes bytes.items) }
     ensures allowed { IfOk result (λ bytes. length bytes.items ≤ max) }
 
     // Each error has its cause. Want of memory is free.
-    ensures fault { IsErrOf result ReadError.Fault → HasRisen (S.faults source.old) (S.faults source.new) }
-    ensures too_large { IfSome (S.left source.old) (λ _.
-        IsErrOf result ReadError.TooLarge ↔ (max < came (S.left source.old) (S.left source.new))) }
+    ensures fault { IsErrOf result ReadError.Fault → HasRisen (S.end source.old).faults (S.end source.new).faults }
+    ensures too_large { IfSome (S.end source.old).bytes (λ _.
+        IsErrOf result ReadError.TooLarge ↔ (max < came (S.end source.old).bytes (S.end source.new).bytes)) }
 
-    ensures err { OnErr result (TakesPrefix (S.left source.old) (S.left source.new)) }
-    ensures count { S.faults source.old ≤ S.faults source.new }
+    ensures err { OnErr result (TakesPrefix (S.end source.old).bytes (S.end source.new).bytes) }
+    ensures count { (S.end source.old).faults ≤ (S.end source.new).faults }
 {
     let mut bytes = Vec::new(alloc);
     let mut piece = [0u8; PIECE];

@@ -36,24 +36,16 @@ pub fn allowed(notice: Notice, answer: ExitAnswer) -> bool
     }
 }
 
-/// What an exit calls: a closure that the caller has put into a box, and that threads may share.
-pub type ExitClosure = Box<dyn Fn(Notice) -> ExitAnswer + Drop + Sync>;
-
-/// A closure that answers notices, beside the fact that it may be called with each notice and that
-/// each answer it gives is allowed.
+/// A caller's closure, which answers notices. That it may be called with each notice, and that each answer it may give
+/// is allowed, is asked where it is called.
 #[derive(Drop)]
-pub struct StatusExit {
-    /// What answers the notices.
-    pub closure: ExitClosure,
-    pub ghost callable: { ExitClosure.IsAlwaysCallable closure },
-    pub ghost answers_allowed: { AnswersAllowed (ExitClosure.post closure) },
+pub struct StatusExit<F> {
+    pub closure: F,
 }
 
-impl StatusExit {
+impl<F: Fn(Notice) -> ExitAnswer> StatusExit<F> {
     /// The exit that answers as the closure does.
-    pub fn new(closure: ExitClosure) -> StatusExit
-        requires callable { ExitClosure.IsAlwaysCallable closure }
-        requires answers_allowed { AnswersAllowed (ExitClosure.post closure) }
+    pub fn new(closure: F) -> StatusExit<F>
         ensures { result.closure ≡ closure }
     {
         StatusExit { closure }
@@ -61,7 +53,9 @@ impl StatusExit {
 
     /// What the closure answers to the notice.
     pub fn ask(&self, notice: Notice) -> ExitAnswer
-        ensures answered { ExitClosure.post self.now.closure notice result }
+        requires callable { F.IsAlwaysCallable self.now.closure }
+        requires allowed { AnswersAllowed (F.post self.now.closure) }
+        ensures answered { F.post self.now.closure notice result }
         ensures allowed { IsTrue (is_allowed notice result) }
     {
         (self.closure)(notice)
@@ -74,7 +68,9 @@ mod tests {
     use std::test::Fail;
 
     /// The answer to the loss of the alternate of an exit that threads may share.
-    fn upon_loss<E: Sync>(_shared: &E, exit: &StatusExit) -> ExitAnswer
+    fn upon_loss<F: Fn(Notice) -> ExitAnswer + Sync>(exit: &StatusExit<F>) -> ExitAnswer
+        requires callable { F.IsAlwaysCallable exit.now.closure }
+        requires allowed { AnswersAllowed (F.post exit.now.closure) }
         ensures { IsTrue (is_allowed Notice.AlternateLost result) }
     {
         exit.ask(Notice::AlternateLost)
@@ -83,7 +79,7 @@ mod tests {
     #[test]
     fn an_exit_answers_by_the_notice(rt: HostRuntime) -> Result<(), Fail> {
         let keeps = true;
-        let exit = StatusExit::new(Box::new(rt.alloc(), move |notice| match notice {
+        let exit = StatusExit::new(|notice| match notice {
             Notice::TakeoverSeen => ExitAnswer::Abend,
             Notice::AlternateLost => {
                 if keeps {
@@ -92,9 +88,9 @@ mod tests {
                     ExitAnswer::Drop
                 }
             }
-        })?);
+        });
         assert_eq!(rt; exit.ask(Notice::TakeoverSeen), ExitAnswer::Abend);
-        assert_eq!(rt; upon_loss(&exit, &exit), ExitAnswer::Keep);
+        assert_eq!(rt; upon_loss(&exit), ExitAnswer::Keep);
         Ok(())
     }
 

@@ -6,8 +6,8 @@ use Rattle.xrf_grammar.specs.declared.form.Form.{Form}
 use Rattle.xrf_grammar.specs.declared.form.Form.TheVariants as form
 use Rattle.xrf_grammar.specs.declared.form.ItemForm.{ItemForm}
 use Rattle.xrf_grammar.specs.declared.form.ItemForm.TheVariants as work
-use Rattle.xrf_grammar.specs.Places.{behind, front}
-use Rattle.xrf_grammar.specs.Saying.{choice_said, once_said, item_said, work_said, plan_said, said}
+use Rattle.xrf_grammar.specs.Places.{front}
+use Rattle.xrf_grammar.specs.Saying.{choice_said, once_said, work_said, plan_said, said}
 
 choice_by_front : (f : ChoiceForm) (ws : List (List ℕ)) → choice_said f (front ws) ≡ choice_said f ws
 choice_by_front by.Tick ws = refl

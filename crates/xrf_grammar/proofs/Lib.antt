@@ -12,6 +12,6 @@ pub mod WrittenChoices
 pub mod WrittenLines
 pub mod LineAgain
 pub mod FaultLaws
-pub mod BeginningLaws
 pub mod SpelledLaws
+pub mod WorkLaws
 pub mod FrontLaws

@@ -130,6 +130,17 @@ thousand-text n high small =
     ∙ ap (λ (k : ℕ). decimal (n / 10 / 10 / 10) ++ (48 + k % 10) ∷ (48 + n / 10 % 10) ∷ (48 + n % 10) ∷ []) (hundreds n)
     ∙ ap (λ (k : ℕ). decimal k ++ (48 + n / 100 % 10) ∷ (48 + n / 10 % 10) ∷ (48 + n % 10) ∷ []) first
 
+-- four digits
+four-text : (n : ℕ) → 1000 ≤ n → n < 10000 → decimal n ≡ (48 + n / 1000) ∷ (48 + n / 100 % 10) ∷ (48 + n / 10 % 10) ∷ (48 + n % 10) ∷ []
+four-text n high low =
+    thousand-text n high (omega arith) ∙ ap (λ (l : List ℕ). l ++ (48 + n / 100 % 10) ∷ (48 + n / 10 % 10) ∷ (48 + n % 10) ∷ []) (decimal_digit (n / 1000) (omega arith))
+
+pub four_digits : (out new : List ℕ) (n a b c d : ℕ) → 1000 ≤ n → n < 10000 → a ≡ 48 + n / 1000 → b ≡ 48 + n / 100 % 10 → c ≡ 48 + n / 10 % 10 → d ≡ 48 + n % 10
+    → new ≡ out ++ a ∷ b ∷ c ∷ d ∷ [] → new ≡ out ++ decimal n
+four_digits out new n a b c d high low p q r s e =
+    e ∙ ap (λ (x : ℕ). out ++ x ∷ b ∷ c ∷ d ∷ []) p ∙ ap (λ (x : ℕ). out ++ (48 + n / 1000) ∷ x ∷ c ∷ d ∷ []) q ∙ ap (λ (x : ℕ). out ++ (48 + n / 1000) ∷ (48 + n / 100 % 10) ∷ x ∷ d ∷ []) r
+    ∙ ap (λ (x : ℕ). out ++ (48 + n / 1000) ∷ (48 + n / 100 % 10) ∷ (48 + n / 10 % 10) ∷ x ∷ []) s ∙ ap (λ (l : List ℕ). out ++ l) (sym (four-text n high low))
+
 pub thousands : (out front new : List ℕ) (n a b c : ℕ) → 1000 ≤ n → n < 2 ^ 64 → front ≡ out ++ decimal (n / 1000) → a ≡ 48 + n / 100 % 10 → b ≡ 48 + n / 10 % 10 → c ≡ 48 + n % 10
     → new ≡ front ++ a ∷ b ∷ c ∷ [] → new ≡ out ++ decimal n
 thousands out front new n a b c high small f p q r e =

@@ -1,6 +1,5 @@
 -- What some words spell by forms of a table is what they say by the table.
-use Rattle.std.proofs.Common.{◌≡◌, ◌⊎◌, inl, inr, ℕ, Bool, true, false, List, [], ◌∷◌, Option, Some, None, Result, Ok, Err, IfSome, refl, sym, subst}
-use Rattle.xrf_grammar.specs.declared.reason.Reason.{Reason}
+use Rattle.std.proofs.Common.{◌≡◌, inl, inr, ℕ, Bool, true, false, List, ◌∷◌, Option, Some, None, Ok, IfSome, refl, sym, subst}
 use Rattle.xrf_grammar.specs.declared.form.Form.{Form}
 use Rattle.xrf_setup.specs.declared.format.Format.{Format}
 use Rattle.xrf_grammar.specs.declared.form.Part.{Part}
@@ -43,13 +42,17 @@ spelled_by form forms ws (Some says) among fit e = record { form = form; among =
 by-table : (forms all : List Form) (ws : List (List ℕ)) (says : Line) → AreAmong forms all → Spells forms ws says → Spells all ws says
 by-table forms all ws says among s = record { form = s.form; among = among s.form s.among; fit = s.fit; line = s.line }
 
+-- what some forms of a table spell is spelled by the table
+pub by_table : (forms all : List Form) (ws : List (List ℕ)) (r : Option Line) → AreAmong forms all → IfSome r (λ says. Spells forms ws says) → IfSome r (λ says. Spells all ws says)
+by_table forms all ws None among s = tt
+by_table forms all ws (Some says) among s = by-table forms all ws says among s
+
 -- a line before the choices, of which these are the words
-pub setting_read : (format : Format) (forms : List Form) (ws held : List (List ℕ)) (r : Option Line) → AreAmong forms (settings_of format) → held ≡ ws → IfSome r (λ says. Spells forms held says)
+pub setting_read : (format : Format) (ws held : List (List ℕ)) (r : Option Line) → held ≡ ws → IfSome r (λ says. Spells (settings_of format) held says)
     → IfSome r (λ says. Ok says ≡ line_of (settings_of format) ws)
-setting_read format forms ws held None among same s = tt
-setting_read format forms ws held (Some says) among same s =
-    let of : Spells forms ws says = subst (λ (l : List (List ℕ)). Spells forms l says) same s in
-    sym (line-again (settings_of format) ws says (settings-apart format) (by-table forms (settings_of format) ws says among of))
+setting_read format ws held None same s = tt
+setting_read format ws held (Some says) same s =
+    sym (line-again (settings_of format) ws says (settings-apart format) (subst (λ (l : List (List ℕ)). Spells (settings_of format) l says) same s))
 
 -- a line behind CHOICES, of which these are the words
 pub choice_read : (forms : List Form) (ws held : List (List ℕ)) (r : Option Line) → AreAmong forms choices_table → held ≡ ws → IfSome r (λ says. Spells forms held says)

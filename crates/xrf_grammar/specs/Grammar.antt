@@ -1,19 +1,23 @@
 -- The grammar of a line: which words are of a form, and which lines there are.
-use Rattle.std.specs.Prelude.{◌≡◌, ◌⊎◌, ◌≤◌, ℕ, Bool, true, false, List, [], ◌∷◌, Some, IsTrue}
+use Rattle.std.specs.Prelude.{◌≡◌, ◌⊎◌, ◌≤◌, ℕ, Bool, true, false, List, [], ◌∷◌, Some, IsTrue, codes}
 use Rattle.std.specs.Option.{is_some}
+use Rattle.xrf_base.specs.declared.items.Item.{Item}
+use Rattle.xrf_base.specs.declared.site.Site.{Site as Place}
 use Rattle.xrf_base.specs.Names.{IsName}
 use Rattle.xrf_base.specs.Values.{IsValue}
 use Rattle.xrf_grammar.specs.declared.form.Part.{Part}
 use Rattle.xrf_grammar.specs.declared.form.Part.TheVariants.{Keyword, Refused, Site, Number, Multiple, Name, Value, Hex, Words}
 use Rattle.xrf_grammar.specs.declared.form.Form.{Form}
 use Rattle.xrf_grammar.specs.declared.line.Line.{Line}
+use Rattle.xrf_grammar.specs.declared.line.Line.TheVariants.{Work}
 use Rattle.xrf_grammar.specs.Fitting.{takes_all}
 use Rattle.xrf_grammar.specs.Hex.{is_hex}
 use Rattle.xrf_grammar.specs.Keywords.{keyword_text}
 use Rattle.xrf_grammar.specs.Numbers.{number_of}
 use Rattle.xrf_grammar.specs.Operands.{site_of, is_multiple_of}
 use Rattle.xrf_grammar.specs.Saying.{said}
-use Rattle.xrf_grammar.specs.Table.{parts_of}
+use Rattle.xrf_grammar.specs.Table.{parts_of, settings_of}
+use Rattle.xrf_setup.specs.declared.format.Format.{Format}
 
 -- a number in a range that also passes a test
 pub record IsNumber (least most : ℕ) (also : ℕ → Bool) (word : List ℕ) : Type 0 where
@@ -61,6 +65,10 @@ pub record Spells (forms : List Form) (ws : List (List ℕ)) (says : Line) : Typ
   pub among : IsAmong form forms
   pub fit : AreOfForm (parts_of form) ws
   pub line : said form ws ≡ Some says
+
+-- some words spell an item: behind WORK and any site they spell a line of work
+abbrev pub SpellsItem : Format → List (List ℕ) → Item → Type 0
+SpellsItem format ws says = (word : List ℕ) (site : Place) → site_of word ≡ Some site → Spells (settings_of format) (codes "WORK" ∷ word ∷ ws) (Work site says)
 
 -- some words are of none of the forms
 abbrev pub AreOfNone : List Form → List (List ℕ) → Type 0

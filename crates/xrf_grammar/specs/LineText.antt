@@ -1,10 +1,8 @@
 -- How a line is written, and which lines a text can spell.
-use Rattle.std.specs.Prelude.{◌≡◌, ◌≢◌, ◌⊎◌, ◌≤◌, ℕ, Bool, true, false, List, [], ◌∷◌, ◌++◌, codes, IsTrue}
+use Rattle.std.specs.Prelude.{◌≡◌, ◌≢◌, ◌⊎◌, ℕ, Bool, true, false, List, [], ◌∷◌, ◌++◌, codes, IsTrue}
 use Rattle.std.specs.Fmt.{decimal}
 use Rattle.xrf_base.specs.Names.{IsName}
 use Rattle.xrf_base.specs.Values.{IsValue}
-use Rattle.xrf_base.specs.declared.items.Item.{Item}
-use Rattle.xrf_base.specs.declared.items.Item.TheVariants as item
 use Rattle.xrf_cebt.specs.Command.{mode_word}
 use Rattle.xrf_setup.specs.declared.choice.Choice.{Choice}
 use Rattle.xrf_setup.specs.declared.choice.Choice.TheVariants as choice

@@ -15,10 +15,12 @@ mod operand;
 pub mod reading;
 pub mod reason;
 mod saying;
+mod settings_beginning;
 mod spelled;
 mod table;
 mod word;
 mod work_parts;
+mod work_reading;
 pub mod writing;
 
 pub use form::Form;

@@ -15,7 +15,7 @@ ghost use Rattle.xrf_grammar.specs.declared.line.Line.TheVariants.{Clt};
 
 use crate::line::Line;
 use crate::writing::Piece::{Number, Text};
-use crate::writing::{put, put_choice, put_item, put_named, put_of_site, put_text};
+use crate::writing::{put, put_choice, put_item, put_named, put_of_site, put_text, put_word};
 use std::alloc::{AllocError, Global};
 use xrf_base::{Item, Site, Takeovr};
 use xrf_setup::{Choice, Format};
@@ -56,13 +56,16 @@ fn put_record(alloc: Global, out: &mut Vec<u8>, number: u16, value: &[u8]) -> Re
     ensures { OnOk result (out.new.items ≡ out.old.items ++ codes "RECORD " ++ decimal number ++ codes " " ++ value.now) }
 {
     put_setting(alloc, out, b"RECORD ", number)?;
-    put_named(alloc, out, b" ", value)
+    put_word(out, value)
 }
 
 fn put_work(alloc: Global, out: &mut Vec<u8>, site: Site, item: &Item) -> Result<(), AllocError>
     ensures { OnOk result (out.new.items ≡ out.old.items ++ work_text site item.now) }
 {
-    put_of_site(alloc, out, b"WORK", site, b" ")?;
+    match site {
+        Site::A => put_text(out, b"WORK A ")?,
+        Site::B => put_text(out, b"WORK B ")?,
+    }
     put_item(alloc, out, item)
 }
 

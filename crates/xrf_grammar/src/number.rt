@@ -1,27 +1,21 @@
 //! Numbers in texts.
 
-ghost use Rattle.std.specs.Prelude.{◌≡◌, ◌≤◌, length, true, IsTrue};
-ghost use Rattle.std.specs.Char.{is_ascii_digit};
-ghost use Rattle.std.specs.List.{list_all};
-ghost use Rattle.xrf_grammar.specs.Numbers.{number_of, value_behind};
+ghost use Rattle.std.specs.Prelude.{◌≡◌, ◌≤◌, length};
+ghost use Rattle.xrf_grammar.specs.Numbers.{digits_behind, number_of};
 
-fn all_digits(text: &[u8]) -> bool
-    ensures { result ≡ list_all is_ascii_digit text.now }
-{
-    text.iter().all(|b| b.is_ascii_digit())
-}
-
-// the number that at most five digits write
-fn value(digits: &[u8]) -> u32
-    requires few { length digits.now ≤ 5 }
-    requires digits { list_all is_ascii_digit digits.now ≡ true }
-    ensures { result ≡ value_behind 0 digits.now }
+// the number that at most five digits write, or none where one is no digit
+fn value(text: &[u8]) -> Option<u32>
+    requires { length text.now ≤ 5 }
+    ensures { result ≡ digits_behind 0 text.now }
 {
     let mut number = 0u32;
-    for digit in digits {
+    for digit in text {
+        if !digit.is_ascii_digit() {
+            return None;
+        }
         number = 10 * number + (*digit - b'0') as u32;
     }
-    number
+    Some(number)
 }
 
 /// The number that a text spells: decimal digits without a leading zero, except 0 itself, and at
@@ -35,11 +29,8 @@ pub(crate) fn read_number(text: &[u8]) -> Option<u16>
     if text.len() > 5 {
         return None;
     }
-    if !all_digits(text) {
-        return None;
-    }
     if text[0] == b'0' && text.len() > 1 {
         return None;
     }
-    u16::try_from(value(text)).ok()
+    u16::try_from(value(text)?).ok()
 }

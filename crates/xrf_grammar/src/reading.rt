@@ -11,7 +11,7 @@ use crate::form::Form;
 use crate::line::Line;
 use crate::reason::Reason;
 use crate::saying::say;
-use crate::spelled::{choice_by_first_word, setting_by_first_word};
+use crate::spelled::{choice_by_first_word, setting_by_words};
 use crate::table::{choices, settings};
 use crate::word::{first_word, front_words, second_word};
 use xrf_setup::Format;
@@ -32,13 +32,14 @@ fn read_form(form: Form, line: &[u8]) -> Result<Line, Reason>
 
 /// What a line between the header and the line CHOICES says, or that this line is CHOICES; else the
 /// first reason for which the line is none of them. The line has no byte outside blank to `~`.
+#[inline(never)]
 #[tactic(auto, using(crate::proofs::FormLaws::found_by_reading))]
 pub fn read_setting(format: Format, line: &[u8]) -> Result<Line, Reason>
     ensures found { IfOk result (λ says. Spells (settings_of format) (words line.now) says) }
     ensures none { IfErr result (λ reason. AreOfNone (settings_of format) (words line.now)) }
     ensures exact { result ≡ line_of (settings_of format) (words line.now) }
 {
-    match setting_by_first_word(format, line) {
+    match setting_by_words(format, line) {
         Some(says) => Ok(says),
         None => read_by_form(settings(format), line),
     }
@@ -46,6 +47,7 @@ pub fn read_setting(format: Format, line: &[u8]) -> Result<Line, Reason>
 
 /// What a line behind the line CHOICES says, or the first reason for which it is none. The line has
 /// no byte outside blank to `~`.
+#[inline(never)]
 #[tactic(auto, using(crate::proofs::FormLaws::found_by_reading))]
 pub fn read_choice(line: &[u8]) -> Result<Line, Reason>
     ensures found { IfOk result (λ says. Spells choices_table (words line.now) says) }

@@ -1,4 +1,4 @@
-//! The line that some words spell, by the forms that begin with the first of them.
+//! The line that some words spell: word by word, or by the forms that begin with the first of them.
 
 ghost use Rattle.std.specs.Prelude.{◌≡◌, IfSome, IsTrue, Ok};
 ghost use Rattle.xrf_text.specs.Text.{words, texts};
@@ -7,13 +7,15 @@ ghost use Rattle.xrf_grammar.specs.Grammar.{IsOfPart, IsAmong, AreOfForm, Spells
 ghost use Rattle.xrf_grammar.specs.Reading.{line_of};
 ghost use Rattle.xrf_grammar.specs.Table.{parts_of, settings_of, choices_table};
 
-use crate::beginning::{choices_beginning, settings_beginning};
+use crate::beginning::choices_beginning;
 use crate::fitting::fault_of_keyword;
 use crate::form::{Form, Part};
 use crate::line::Line;
 use crate::operand::fault_of_operand;
 use crate::saying::say;
+use crate::settings_beginning::settings_beginning;
 use crate::word::first;
+use crate::work_reading::read_by_words;
 use xrf_setup::Format;
 use xrf_text::LineWords;
 
@@ -85,20 +87,44 @@ fn spelled(forms: &[Form], line_words: &[&[u8]]) -> Option<Line>
     }
 }
 
-/// What a line before the choices says, where it is found by its first word.
-pub(crate) fn setting_by_first_word(format: Format, line: &[u8]) -> Option<Line>
+/// The line before the choices that some words spell by the forms of their first word.
+#[tactic(auto, using(crate::proofs::SpelledLaws::by_table))]
+fn setting_by_form(format: Format, line_words: &[&[u8]]) -> Option<Line>
+    ensures { IfSome result (λ says. Spells (settings_of format) (texts line_words.now) says) }
+{
+    spelled(settings_beginning(format, line_words), line_words)
+}
+
+/// The line before the choices that some words spell.
+fn setting_spelled(format: Format, line_words: &[&[u8]]) -> Option<Line>
+    ensures { IfSome result (λ says. Spells (settings_of format) (texts line_words.now) says) }
+{
+    let says = read_by_words(format, line_words);
+    if says.is_some() {
+        return says;
+    }
+    setting_by_form(format, line_words)
+}
+
+/// What a line before the choices says, where it is found by its first words.
+pub(crate) fn setting_by_words(format: Format, line: &[u8]) -> Option<Line>
     ensures { IfSome result (λ says. Ok says ≡ line_of (settings_of format) (words line.now)) }
 {
-    let words = LineWords::split(line)?;
-    let forms = settings_beginning(format, words.as_slice());
-    spelled(forms, words.as_slice())
+    let mut words = LineWords::new();
+    if !words.split(line) {
+        return None;
+    }
+    setting_spelled(format, words.as_slice())
 }
 
 /// What a line behind the line CHOICES says, where it is found by its first word.
 pub(crate) fn choice_by_first_word(line: &[u8]) -> Option<Line>
     ensures { IfSome result (λ says. Ok says ≡ line_of choices_table (words line.now)) }
 {
-    let words = LineWords::split(line)?;
+    let mut words = LineWords::new();
+    if !words.split(line) {
+        return None;
+    }
     let forms = choices_beginning(first(words.as_slice()));
     spelled(forms, words.as_slice())
 }

@@ -39,8 +39,8 @@ fn decimal_digit(number: u64) -> u8
     b'0' + number as u8
 }
 
-// up to three digits at once, behind those of the thousands
-#[tactic(auto, using(crate::proofs::NumberLaws::one_digit, crate::proofs::NumberLaws::two_digits, crate::proofs::NumberLaws::three_digits, crate::proofs::NumberLaws::thousands))]
+// up to four digits at once, or three behind those of the thousands
+#[tactic(auto, using(crate::proofs::NumberLaws::one_digit, crate::proofs::NumberLaws::two_digits, crate::proofs::NumberLaws::three_digits, crate::proofs::NumberLaws::four_digits, crate::proofs::NumberLaws::thousands))]
 fn put_digits(out: &mut Vec<u8>, number: u64) -> Result<(), AllocError>
     ensures { OnOk result (out.new.items ≡ out.old.items ++ decimal number) }
 {
@@ -55,8 +55,12 @@ fn put_digits(out: &mut Vec<u8>, number: u64) -> Result<(), AllocError>
     if number < 1000 {
         return put_text(out, &[decimal_digit(number / 100), ten, one]);
     }
+    let hundred = decimal_digit(number / 100 % 10);
+    if number < 10000 {
+        return put_text(out, &[decimal_digit(number / 1000), hundred, ten, one]);
+    }
     put_digits(out, number / 1000)?;
-    put_text(out, &[decimal_digit(number / 100 % 10), ten, one])
+    put_text(out, &[hundred, ten, one])
 }
 
 // a number of one digit, as most are, is written in place
@@ -71,23 +75,43 @@ fn put_number(out: &mut Vec<u8>, number: u64) -> Result<(), AllocError>
     put_digits(out, number)
 }
 
+const HEX_DIGITS: [u8; 16] = *b"0123456789abcdef";
+
 // the digit of a number below 16
 fn digit(number: u8) -> u8
     requires { number < 16 }
     ensures { result ≡ hex_digit number }
 {
-    if number < 10 {
-        b'0' + number
-    } else {
-        b'a' + (number - 10)
-    }
+    HEX_DIGITS[number as usize]
+}
+
+// four bytes at once
+fn put_four(out: &mut Vec<u8>, a: u8, b: u8, c: u8, d: u8) -> Result<(), AllocError>
+    ensures { OnOk result (out.new.items ≡ out.old.items ++ hex_text (a ∷ b ∷ c ∷ d ∷ [])) }
+{
+    let digits = [
+        digit(a / 16),
+        digit(a % 16),
+        digit(b / 16),
+        digit(b % 16),
+        digit(c / 16),
+        digit(c % 16),
+        digit(d / 16),
+        digit(d % 16),
+    ];
+    put_text(out, &digits)
 }
 
 #[inline(never)]
 fn put_hex(out: &mut Vec<u8>, bytes: &[u8]) -> Result<(), AllocError>
     ensures { OnOk result (out.new.items ≡ out.old.items ++ hex_text bytes.now) }
 {
-    for byte in bytes {
+    let mut rest = bytes;
+    while let [a, b, c, d, more @ ..] = rest {
+        put_four(out, *a, *b, *c, *d)?;
+        rest = more;
+    }
+    for byte in rest {
         put_text(out, &[digit(*byte / 16), digit(*byte % 16)])?;
     }
     Ok(())
@@ -167,6 +191,16 @@ fn answer_word(answer: ExitAnswer) -> &'static [u8]
     }
 }
 
+// a blank and the word of a site
+fn behind_blank(site: Site) -> &'static [u8]
+    ensures { result.now ≡ 32 ∷ site_word site }
+{
+    match site {
+        Site::A => b" A",
+        Site::B => b" B",
+    }
+}
+
 // a word, a site and what stands behind it
 #[inline(always)]
 pub(crate) fn put_of_site<'a>(
@@ -181,8 +215,18 @@ pub(crate) fn put_of_site<'a>(
     put(
         alloc,
         out,
-        &[Text(word), Text(b" "), Text(site_word(site)), Text(behind)],
+        &[Text(word), Text(behind_blank(site)), Text(behind)],
     )
+}
+
+// most choices are steps
+fn put_step(out: &mut Vec<u8>, site: Site) -> Result<(), AllocError>
+    ensures { OnOk result (out.new.items ≡ out.old.items ++ site_text (codes "STEP") site []) }
+{
+    match site {
+        Site::A => put_text(out, b"STEP A"),
+        Site::B => put_text(out, b"STEP B"),
+    }
 }
 
 fn put_landed(
@@ -250,7 +294,7 @@ pub fn put_choice(alloc: Global, out: &mut Vec<u8>, choice: &Choice) -> Result<(
 {
     match choice {
         Choice::Tick => put_text(out, b"TICK"),
-        Choice::Step(site) => put_of_site(alloc, out, b"STEP", *site, b""),
+        Choice::Step(site) => put_step(out, *site),
         Choice::Lose(site) => put_of_site(alloc, out, b"LOSE", *site, b""),
         Choice::Stop(site, landing) => put_landed(alloc, out, b"STOP", *site, landing),
         Choice::Fail(site, landing) => put_landed(alloc, out, b"FAIL", *site, landing),
@@ -274,6 +318,15 @@ pub(crate) fn put_named<'a>(
     ensures { OnOk result (out.new.items ≡ out.old.items ++ word.now ++ name.now) }
 {
     put(alloc, out, &[Text(word), Text(name)])
+}
+
+// a word behind a blank
+#[inline(always)]
+pub(crate) fn put_word(out: &mut Vec<u8>, word: &[u8]) -> Result<(), AllocError>
+    ensures { OnOk result (out.new.items ≡ out.old.items ++ codes " " ++ word.now) }
+{
+    out.push(b' ')?;
+    put_text(out, word)
 }
 
 fn put_numbered<'a>(
@@ -300,7 +353,7 @@ pub fn put_item(alloc: Global, out: &mut Vec<u8>, item: &Item) -> Result<(), All
         Item::Begin(unit) => put_named(alloc, out, b"BEGIN ", unit.text()),
         Item::Put(unit, number, value) => {
             put_numbered(alloc, out, b"PUT ", unit.text(), *number)?;
-            put_named(alloc, out, b" ", value.text())
+            put_word(out, value.text())
         }
         Item::Get(unit, number) => put_numbered(alloc, out, b"GET ", unit.text(), *number),
         Item::Commit(unit) => put_named(alloc, out, b"COMMIT ", unit.text()),
@@ -313,7 +366,7 @@ pub fn put_item(alloc: Global, out: &mut Vec<u8>, item: &Item) -> Result<(), All
         Item::ShutdownTakeover => put_text(out, b"CEMT SHUTDOWN TAKEOVER"),
         Item::Signon(terminal, user) => {
             put_named(alloc, out, b"SIGNON ", terminal.text())?;
-            put_named(alloc, out, b" ", user.text())
+            put_word(out, user.text())
         }
         Item::Signoff(terminal) => put_named(alloc, out, b"SIGNOFF ", terminal.text()),
     }

@@ -88,9 +88,8 @@ fn next_signal(inc: Inc, rounds: u32, cursor: u32) -> Signal
 }
 
 impl Common {
-    /// A job that is started, for this purpose.
-    pub fn start(purpose: Purpose) -> Common
-        requires { purpose ≡ Purpose.SignOnActive }
+    /// A job that is started. What it reserves for is not asked before its first RESERVE.
+    pub fn start() -> Common
         ensures { (p : Set) → Shares result p (StartedActive ∷ []) }
     {
         Common {
@@ -101,7 +100,7 @@ impl Common {
             signal: None,
             watch: Watch::new(0),
             decided: None,
-            purpose,
+            purpose: Purpose::SignOnActive,
             read: Control::empty(),
             known: Known {
                 owner: false,

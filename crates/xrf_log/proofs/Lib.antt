@@ -1,2 +1,3 @@
 pub mod FlightLaws
+pub mod NewestLaws
 pub mod Runs

@@ -1,7 +1,9 @@
-ghost use Rattle.std.specs.Prelude.{◌≡◌, ℕ, ◌+◌, ◌<◌, [], ◌∷◌, not, length, filter, reverse, slice_get, Some, IfOk, vec_len, vec_capacity};
+ghost use Rattle.std.specs.Prelude.{◌≡◌, ℕ, ◌+◌, ◌<◌, ◌≤◌, [], ◌∷◌, List, not, length, filter, reverse, slice_get, Some, IfOk, vec_len, vec_capacity};
 ghost use Rattle.std.specs.List.{list_any};
 ghost use Rattle.xrf_logrec.specs.LogRecords.{same_unit};
+ghost use Rattle.xrf_logrec.specs.declared.records.LogRec.{LogRec as Rec};
 ghost use Rattle.xrf_log.specs.Flight.{ends, flight, put_of, open_puts, undo_rows};
+ghost use Rattle.xrf_log.specs.Kept.{order_of, IsNewest};
 
 use std::alloc::{AllocError, Global};
 use std::marker::Model;
@@ -22,6 +24,8 @@ pub(crate) struct Taken {
     records: Vec<LogRec>,
     units: Vec<UnitId>,
     rows: Vec<Row>,
+    // no unit that has ended is later in the order of units
+    newest: u64,
 }
 
 impl Model for Taken {
@@ -48,6 +52,7 @@ impl Taken {
             records,
             units,
             rows,
+            newest: 0,
         })
     }
 
@@ -58,6 +63,7 @@ impl Taken {
         self.records.clear();
         self.units.clear();
         self.rows.clear();
+        self.newest = 0;
     }
 
     /// How many records were taken.
@@ -72,7 +78,14 @@ impl Taken {
         requires { length self.old.list < self.old.most }
         ensures { self.new ≡ record { most = self.old.most; list = rec ∷ self.old.list } }
     {
-        add_record(&self.records, &mut self.units, &mut self.rows, &rec);
+        add_record(
+            &self.records,
+            self.newest,
+            &mut self.units,
+            &mut self.rows,
+            &rec,
+        );
+        self.newest = newest_with(self.newest, &rec);
         self.records.push_reserved(rec);
     }
 
@@ -108,7 +121,14 @@ impl Taken {
 }
 
 // how the units in flight and their puts change with a record
-fn add_record(records: &[LogRec], units: &mut Vec<UnitId>, rows: &mut Vec<Row>, rec: &LogRec)
+fn add_record(
+    records: &[LogRec],
+    newest: u64,
+    units: &mut Vec<UnitId>,
+    rows: &mut Vec<Row>,
+    rec: &LogRec,
+)
+    requires newest { IsNewest newest (reverse records.now) }
     requires units { units.old.items ≡ flight (reverse records.now) }
     requires rows { rows.old.items ≡ reverse (open_puts (reverse records.now)) }
     requires unit_room { length records.now < vec_capacity units.old }
@@ -124,7 +144,7 @@ fn add_record(records: &[LogRec], units: &mut Vec<UnitId>, rows: &mut Vec<Row>, 
                 rrn: *rrn,
                 before: *before,
             };
-            add_put(records, units, rows, Row { unit: *unit, undo });
+            add_put(records, newest, units, rows, Row { unit: *unit, undo });
         }
         LogRec::Commit { unit } => end_unit(units, rows, *unit),
         LogRec::Backout { unit } => end_unit(units, rows, *unit),
@@ -132,7 +152,8 @@ fn add_record(records: &[LogRec], units: &mut Vec<UnitId>, rows: &mut Vec<Row>, 
 }
 
 // adds a put to the units in flight and their puts, unless its unit has ended
-fn add_put(records: &[LogRec], units: &mut Vec<UnitId>, rows: &mut Vec<Row>, row: Row)
+fn add_put(records: &[LogRec], newest: u64, units: &mut Vec<UnitId>, rows: &mut Vec<Row>, row: Row)
+    requires newest { IsNewest newest (reverse records.now) }
     requires units { units.old.items ≡ flight (reverse records.now) }
     requires rows { rows.old.items ≡ reverse (open_puts (reverse records.now)) }
     requires unit_room { vec_len units.old < vec_capacity units.old }
@@ -144,7 +165,7 @@ fn add_put(records: &[LogRec], units: &mut Vec<UnitId>, rows: &mut Vec<Row>, row
 {
     if contains(units, row.unit) {
         rows.push_reserved(row);
-    } else if !is_ended(row.unit, records) {
+    } else if !has_ended(row.unit, newest, records) {
         units.push_reserved(row.unit);
         rows.push_reserved(row);
     }
@@ -181,6 +202,41 @@ fn is_ended(unit: UnitId, records: &[LogRec]) -> bool
     ensures { result ≡ list_any (ends unit) records.now }
 {
     records.iter().any(|rec| is_end(unit, rec))
+}
+
+// units in the order in which they are given, as numbers
+fn order_of(unit: UnitId) -> u64
+    ensures { result ≡ order_of unit }
+{
+    unit.inc as u64 * 4_294_967_296 + unit.serial as u64
+}
+
+// the later of the newest unit that has ended and a unit that ends
+fn later(newest: u64, ended: UnitId) -> u64
+    ensures { (newest ≤ result) × (order_of ended ≤ result) }
+{
+    let order = order_of(ended);
+    if newest < order { order } else { newest }
+}
+
+// the newest unit that has ended, after one record more
+#[tactic(auto, using(crate::proofs::NewestLaws::newest_put, crate::proofs::NewestLaws::newest_commit, crate::proofs::NewestLaws::newest_backout))]
+fn newest_with(newest: u64, rec: &LogRec) -> u64
+    ensures { (log : List Rec) → IsNewest newest log → IsNewest result (rec.now ∷ log) }
+{
+    match rec {
+        LogRec::Put { .. } => newest,
+        LogRec::Commit { unit } => later(newest, *unit),
+        LogRec::Backout { unit } => later(newest, *unit),
+    }
+}
+
+// whether a unit has ended; one that is later than all that have ended is not sought
+fn has_ended(unit: UnitId, newest: u64, records: &[LogRec]) -> bool
+    requires { IsNewest newest (reverse records.now) }
+    ensures { result ≡ list_any (ends unit) records.now }
+{
+    order_of(unit) <= newest && is_ended(unit, records)
 }
 
 fn contains(units: &[UnitId], unit: UnitId) -> bool

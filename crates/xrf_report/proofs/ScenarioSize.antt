@@ -14,7 +14,7 @@ use Rattle.xrf_grammar.specs.Plain.{IsPlain}
 use Rattle.xrf_grammar.specs.Spelling.{item_text, work_text}
 use Rattle.xrf_grammar.specs.declared.line.Line.TheVariants.{Record, Work, Plan}
 use Rattle.xrf_scenario.proofs.PlainLaws.{file-most, scenario-plain}
-use Rattle.xrf_scenario.specs.Canonical.{fed, text_of, records_said, clt_said, plan_said, scenario_lines}
+use Rattle.xrf_scenario.specs.Canonical.{fed, text_of, record_lines, clt_lines, plan_lines, scenario_lines}
 use Rattle.xrf_scenario.specs.SettingLines.{setting_lines, level_lines}
 use Rattle.xrf_setup.specs.Commands.{kept_line}
 use Rattle.xrf_setup.specs.Items.{HasItem, IsItemOf}
@@ -125,11 +125,11 @@ levels-few Two t = omega arith
 pub scenario-size : (s : Scen) → IsScen s → length (text_of (scenario_lines s)) ≤ 466171
 scenario-size s is =
     let settings : List (List ℕ) = map line_text (setting_lines s.settings) in
-    let records : List (List ℕ) = records_said s.records in
-    let clt : List (List ℕ) = clt_said s.clt in
+    let records : List (List ℕ) = record_lines s.records in
+    let clt : List (List ℕ) = clt_lines s.clt in
     let work_a : List (List ℕ) = map (λ (i : Item). line_text (Work A i)) s.work_a in
     let work_b : List (List ℕ) = map (λ (i : Item). line_text (Work B i)) s.work_b in
-    let plan : List (List ℕ) = plan_said s.plan in
+    let plan : List (List ℕ) = plan_lines s.plan in
     let plain : AllByRecursion IsPlain (header_text s.settings.format ∷ settings ++ records ++ clt ++ work_a ++ work_b ++ plan) = scenario-plain s is in
     let to_b = first-of IsPlain (settings ++ records ++ clt ++ work_a ++ work_b) plan plain.1 in
     let to_a = first-of IsPlain (settings ++ records ++ clt ++ work_a) work_b to_b in

@@ -1,4 +1,4 @@
--- The nine lines of a drawn run.
+-- The nine lines of a generated run.
 use Rattle.std.specs.Prelude.{ℕ, ◌+◌, if◌then◌else◌, List, [], ◌∷◌, ◌++◌, codes, length}
 use Rattle.std.specs.Fmt.{decimal}
 use Rattle.xrf_world.specs.Report.{log_counts}

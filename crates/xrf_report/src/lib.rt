@@ -4,7 +4,6 @@
 mod acts;
 mod answers;
 mod decisions;
-mod drawn;
 mod entries;
 mod files;
 mod images;
@@ -15,11 +14,12 @@ mod messages;
 mod records;
 mod reporting;
 mod standing;
+mod summing;
 mod terminals;
 #[cfg(test)]
 mod tests;
 mod whole;
 mod words;
 
-pub use drawn::summary;
+pub use summing::summary;
 pub use whole::{document, report};

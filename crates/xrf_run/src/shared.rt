@@ -13,13 +13,12 @@ ghost use Rattle.xrf_run.specs.Pacing.{steps_of, steps_made, is_in_pace, is_thro
 ghost use Rattle.xrf_run.specs.Threaded.{IsThreaded, is_full, has_ended};
 ghost use Rattle.xrf_run.specs.Turns.{begun, passed, IsSiteTurn, IsEnvironmentTurn, GoesOn, IsRefused, WasOffered, WasTicked, WasStepped, IsPending, WasSaid, Added, MayFollow, left};
 
-use crate::exit::StatusExit;
 use crate::steps::{Phase, Steps};
 use crate::turn::{Turn, any_did};
 use std::alloc::{AllocError, Global};
 use std::marker::{Model, PhantomData};
 use xrf_base::{Site, Tick};
-use xrf_exit::{ExitAnswer, Notice};
+use xrf_exit::{ExitAnswer, Notice, StatusExit};
 use xrf_setup::ranges::CHOICES_MOST;
 use xrf_setup::{Choice, Scenario};
 use xrf_world::World;

@@ -15,7 +15,7 @@ use std::sync::atomic::{AtomicBool, AtomicU64, Ordering};
 use std::test::Fail;
 use std::thread::{self, Threads};
 use xrf_base::{Site, Tick};
-use xrf_exit::{ExitAnswer, Notice};
+use xrf_exit::{ExitAnswer, Notice, StatusExit};
 use xrf_scenario::read;
 use xrf_setup::ranges::PACE_MOST;
 use xrf_setup::{Choice, Scenario};

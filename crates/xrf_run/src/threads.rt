@@ -11,7 +11,6 @@ ghost use Rattle.xrf_run.specs.Answering.{UponLoss};
 ghost use Rattle.xrf_run.specs.Threaded.{IsThreadedRun};
 ghost use Rattle.xrf_run.specs.Turns.{IsLive};
 
-use crate::exit::StatusExit;
 use crate::gate::{Actor, Gate};
 use crate::shared::{RunName, Shared};
 use std::alloc::{AllocError, Global};
@@ -19,7 +18,7 @@ use std::marker::Brand;
 use std::sync::{Mutex, Wait};
 use std::thread::{Threads, join};
 use xrf_base::Site;
-use xrf_exit::{ExitAnswer, Notice};
+use xrf_exit::{ExitAnswer, Notice, StatusExit};
 use xrf_setup::{Choice, Scenario};
 use xrf_world::World;
 

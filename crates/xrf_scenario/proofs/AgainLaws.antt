@@ -10,8 +10,8 @@ use Rattle.xrf_grammar.specs.declared.reason.Reason.TheVariants.{AfterEnd}
 use Rattle.xrf_scenario.specs.Lines.{is_skipped, is_report, bytes_fault}
 use Rattle.xrf_scenario.specs.Machine.{SaysOnce, step, take_line, take_words}
 use Rattle.xrf_scenario.specs.SoFar.{SoFar, is_whole}
-use Rattle.xrf_scenario.specs.declared.given.Part.{Part}
-use Rattle.xrf_scenario.specs.declared.given.Part.TheVariants.{Making}
+use Rattle.xrf_scenario.specs.declared.section.Section.{Section}
+use Rattle.xrf_scenario.specs.declared.section.Section.TheVariants.{Making}
 
 pub same_says : (line last : List ℕ) (choice : Option Choice) → bytes_eq line last ≡ true → IfSome choice (λ c. SaysOnce last c) → IfSome choice (λ c. SaysOnce line c)
 same_says line last choice same says = subst (λ (l : List ℕ). IfSome choice (λ c. SaysOnce l c)) (sym ((bytes_eq-Decides line last).0 same)) says
@@ -25,8 +25,8 @@ passes false false (Some reason) a b c s w f = absurd (cc)
 passes false false None a b c s w f = refl
 
 -- what is made of such a line
-pub taken_again : (number : ℕ) (so : SoFar) (line : List ℕ) (choice : Choice) → so.part ≡ Making → SaysOnce line choice
+pub taken_again : (number : ℕ) (so : SoFar) (line : List ℕ) (choice : Choice) → so.section ≡ Making → SaysOnce line choice
     → step number so line ≡ take_line number so (words line) (Ok (Once choice))
 taken_again number so line choice making says =
-    passes (is_skipped line) (is_whole so.part) (bytes_fault line) (Ok so) (if is_report line then Ok so else Err AfterEnd) (take_words so.part number so (words line)) says.shown (ap is_whole making) says.bytes
-    ∙ ap (λ (p : Part). take_words p number so (words line)) making ∙ ap (take_line number so (words line)) says.spelled
+    passes (is_skipped line) (is_whole so.section) (bytes_fault line) (Ok so) (if is_report line then Ok so else Err AfterEnd) (take_words so.section number so (words line)) says.shown (ap is_whole making) says.bytes
+    ∙ ap (λ (p : Section). take_words p number so (words line)) making ∙ ap (take_line number so (words line)) says.spelled

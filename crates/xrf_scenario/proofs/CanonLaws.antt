@@ -8,7 +8,7 @@ use Rattle.xrf_setup.specs.declared.format.Format.{Format}
 use Rattle.xrf_grammar.specs.declared.line.Line.TheVariants.{Work}
 use Rattle.xrf_grammar.specs.Plain.{IsPlain}
 use Rattle.xrf_grammar.specs.LineText.{line_text}
-use Rattle.xrf_scenario.specs.Canonical.{text_of, records_said, clt_said, plan_said, scenario_lines, choice_lines, canon, numbered_from, at_lines, AreChoices, IsReportLine, IsReport, ReadAgain}
+use Rattle.xrf_scenario.specs.Canonical.{text_of, record_lines, clt_lines, plan_lines, scenario_lines, choice_lines, canon, numbered_from, at_lines, AreChoices, IsReportLine, IsReport, ReadAgain}
 use Rattle.xrf_scenario.specs.Lines.{text_lines}
 use Rattle.xrf_scenario.specs.Reading.{begun, SaysAll}
 use Rattle.xrf_setup.specs.Scenario.{Scen, IsScen}
@@ -16,7 +16,7 @@ use Rattle.xrf_scenario.specs.SettingLines.{setting_lines}
 use Rattle.xrf_scenario.specs.Settled.{by_number, scenario_of}
 use Rattle.xrf_scenario.specs.SoFar.{SoFar, nothing_said}
 use Rattle.xrf_scenario.specs.Taking.{are_within}
-use Rattle.xrf_scenario.specs.declared.given.Part.TheVariants as part
+use Rattle.xrf_scenario.specs.declared.section.Section.TheVariants as section
 use Rattle.xrf_setup.specs.declared.settings.Settings.{Settings}
 use Rattle.xrf_scenario.proofs.TextLaws.{IsClean, all-both, lines-again, text-both}
 use Rattle.xrf_scenario.proofs.StepLaws.{all-then, plain-clean, header-written, both-say, report-says, report-clean}
@@ -48,7 +48,7 @@ six-say count so s1 s2 s3 s4 s5 last a b c d e f says-a says-b says-c says-d say
 record IsSpoken (s : Scen) : Type 0 where
   last : SoFar
   says : SaysAll 0 nothing_said (scenario_lines s) last
-  before : last.part ≡ part.Settings
+  before : last.section ≡ section.Settings
   within : are_within last ≡ true
   none : last.choices ≡ []
   scenario : scenario_of last ≡ s
@@ -74,7 +74,7 @@ spoken s is =
         s1,
         (
           header-written 1 nothing_said format refl,
-          six-say 1 s1 s2 s3 s4 s5 s6 s7 settings (records_said s.records) (clt_said s.clt) work_a work_b (plan_said s.plan)
+          six-say 1 s1 s2 s3 s4 s5 s6 s7 settings (record_lines s.records) (clt_lines s.clt) work_a work_b (plan_lines s.plan)
               (settings-say 1 s1 s.settings refl (lines-are s.settings is.settings)) records.says
               (λ (n : ℕ). clt-say n s3 s.clt refl is.clt is.clt_few)
               (λ (n : ℕ). work_a-say n s4 s.work_a refl is.work_a is.work_a_few)

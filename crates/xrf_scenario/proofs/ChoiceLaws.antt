@@ -13,7 +13,7 @@ use Rattle.xrf_scenario.specs.Canonical.{choice_lines, numbered_from, AreChoices
 use Rattle.xrf_scenario.specs.Reading.{Says, SaysAll}
 use Rattle.xrf_scenario.specs.SoFar.{SoFar}
 use Rattle.xrf_scenario.specs.Taking.{take, with_room, numbered, are_within}
-use Rattle.xrf_scenario.specs.declared.given.Part.TheVariants.{Settings, Making, Whole}
+use Rattle.xrf_scenario.specs.declared.section.Section.TheVariants.{Settings, Making, Whole}
 use Rattle.xrf_scenario.specs.declared.numbered.Numbered.{Numbered}
 use Rattle.xrf_scenario.proofs.StepLaws.{setting-written, choosing-written, both-say, all-at, all-say}
 use Rattle.xrf_scenario.proofs.WorkLaws.{before-fewer}
@@ -44,9 +44,9 @@ choice-taken first number so ws done c at room =
     ∙ ap (λ (cs : List Numbered). Ok (with_choices so cs)) (sym (numbered-more first done c))
 
 -- what is written of some choices says these
-made-say : (count : ℕ) (so : SoFar) (choices : List Choice) → so.part ≡ Making → AreChoices choices
+made-say : (count : ℕ) (so : SoFar) (choices : List Choice) → so.section ≡ Making → AreChoices choices
     → SaysAll count (with_choices so []) (map choice_text choices) (with_choices so (numbered_from (count + 1) choices))
-made-say count so choices part are = all-say count choice_text (λ (done : List Choice). with_choices so (numbered_from (count + 1) done)) choices says
+made-say count so choices section are = all-say count choice_text (λ (done : List Choice). with_choices so (numbered_from (count + 1) done)) choices says
   where
     says : (done : List Choice) (c : Choice) (rest : List Choice) → choices ≡ done ++ c ∷ rest
         → Says (count + length done + 1) (with_choices so (numbered_from (count + 1) done)) (choice_text c) (with_choices so (numbered_from (count + 1) (done ++ c ∷ [])))
@@ -55,25 +55,25 @@ made-say count so choices part are = all-say count choice_text (λ (done : List 
         let is : HasLine c = all-at HasLine done c rest (subst (AllByRecursion HasLine) split are.each) in
         let fewer = before-fewer choices done c rest split in
         let few : length choices ≤ 8192 = are.few in
-        choosing-written (count + length done + 1) before (Once c) (with_choices so (numbered_from (count + 1) (done ++ c ∷ []))) part is
+        choosing-written (count + length done + 1) before (Once c) (with_choices so (numbered_from (count + 1) (done ++ c ∷ []))) section is
         (choice-taken (count + 1) (count + length done + 1) so (words (choice_text c)) done c (omega arith) (omega (arith, fewer, few)))
 
 -- what is said to the end
 abbrev pub ended : SoFar → List Numbered → SoFar
-ended so choices = record so { part = Whole; choices = choices }
+ended so choices = record so { section = Whole; choices = choices }
 
 -- What is written of CHOICES, the choices and END says these, each at the number of its line.
-pub choices-say : (count : ℕ) (so : SoFar) (choices : List Choice) → so.part ≡ Settings → so.choices ≡ [] → are_within so ≡ true → AreChoices choices
+pub choices-say : (count : ℕ) (so : SoFar) (choices : List Choice) → so.section ≡ Settings → so.choices ≡ [] → are_within so ≡ true → AreChoices choices
     → SaysAll count so (choice_lines choices) (ended so (numbered_from (count + 2) choices))
-choices-say count so choices part none within are =
-    let making : SoFar = record so { part = Making } in
+choices-say count so choices section none within are =
+    let making : SoFar = record so { section = Making } in
     let made : SoFar = with_choices making (numbered_from (count + 1 + 1) choices) in
     let start : SaysAll (count + 1) making (map choice_text choices) made =
     subst (λ (cs : List Numbered). SaysAll (count + 1) (with_choices making cs) (map choice_text choices) made) (sym none) (made-say (count + 1) making choices refl are) in
     let number : count + 1 + 1 ≡ count + 2 = omega arith in (
       making,
       (
-        setting-written (count + 1) so Choices making part tt (ap (λ (t : Bool). if t then Ok making else Err RrnRange) within),
+        setting-written (count + 1) so Choices making section tt (ap (λ (t : Bool). if t then Ok making else Err RrnRange) within),
         both-say (count + 1) making (map choice_text choices) (line_text End ∷ []) made (ended so (numbered_from (count + 2) choices)) start (
           ended so (numbered_from (count + 1 + 1) choices),
           (

@@ -20,13 +20,13 @@ use Rattle.xrf_grammar.proofs.FormLaws.{line-found}
 use Rattle.xrf_grammar.proofs.LineAgain.{clt_again}
 use Rattle.xrf_grammar.specs.Places.{behind}
 use Rattle.xrf_grammar.specs.Table.{settings_of}
-use Rattle.xrf_scenario.specs.Canonical.{clt_said}
+use Rattle.xrf_scenario.specs.Canonical.{clt_lines}
 use Rattle.xrf_setup.specs.Commands.{kept_text, IsKept}
 use Rattle.xrf_text.specs.Text.{is_printable}
 use Rattle.xrf_scenario.specs.Reading.{Says, SaysAll}
 use Rattle.xrf_scenario.specs.SoFar.{SoFar}
 use Rattle.xrf_scenario.specs.Taking.{take, with_room}
-use Rattle.xrf_scenario.specs.declared.given.Part.TheVariants as part
+use Rattle.xrf_scenario.specs.declared.section.Section.TheVariants as section
 use Rattle.xrf_scenario.proofs.StepLaws.{all-then, setting-says, all-at, all-say}
 use Rattle.xrf_grammar.proofs.WordLaws.{blank-free, some-word}
 use Rattle.std.proofs.lemmas.Bool.Decides.{nat_tests}
@@ -138,9 +138,9 @@ kept-taken number so done k is room =
     kept_of applid text = record { applid = applid; text = text }
 
 -- What is written of the command list says its lines.
-pub clt-say : (count : ℕ) (so : SoFar) (clt : List Kept) → so.part ≡ part.Settings → AllByRecursion IsKept clt → length clt ≤ 100
-    → SaysAll count (with_clt so []) (clt_said clt) (with_clt so clt)
-clt-say count so clt part are few = all-say count (λ (k : Kept). codes "CLT " ++ kept_text k) (with_clt so) clt says
+pub clt-say : (count : ℕ) (so : SoFar) (clt : List Kept) → so.section ≡ section.Settings → AllByRecursion IsKept clt → length clt ≤ 100
+    → SaysAll count (with_clt so []) (clt_lines clt) (with_clt so clt)
+clt-say count so clt section are few = all-say count (λ (k : Kept). codes "CLT " ++ kept_text k) (with_clt so) clt says
   where
     says : (done : List Kept) (k : Kept) (rest : List Kept) → clt ≡ done ++ k ∷ rest
         → Says (count + length done + 1) (with_clt so done) (codes "CLT " ++ kept_text k) (with_clt so (done ++ k ∷ []))
@@ -148,6 +148,6 @@ clt-say count so clt part are few = all-say count (λ (k : Kept). codes "CLT " +
         let is : IsKept k = all-at IsKept done k rest (subst (AllByRecursion IsKept) split are) in
         let whole : length clt ≡ length (done ++ k ∷ rest) = ap length split in
         let room : length done < 100 = omega (arith, whole, few, length-append done (k ∷ rest)) in
-        setting-says (count + length done + 1) (with_clt so done) (codes "CLT " ++ kept_text k) Clt (with_clt so (done ++ k ∷ [])) (kept-plain k is) part
+        setting-says (count + length done + 1) (with_clt so done) (codes "CLT " ++ kept_text k) Clt (with_clt so (done ++ k ∷ [])) (kept-plain k is) section
         (subst (λ (ws : List (List ℕ)). Spells (settings_of so.format) ws Clt) (sym (kept-words k is)) (spells-clt so.format (k.applid ∷ words k.text) is.no_fault))
         (kept-taken (count + length done + 1) so done k is room)

@@ -3,7 +3,7 @@ use Rattle.std.proofs.Common.{◌≡◌, ◌+◌, ℕ, true, List, [], ◌∷◌
 use Rattle.std.specs.List.{AllByRecursion}
 use Rattle.xrf_setup.specs.Choices.{HasLine}
 use Rattle.xrf_scenario.specs.Canonical.{AreChoices}
-use Rattle.xrf_scenario.specs.Held.{Gives, IsBad}
+use Rattle.xrf_scenario.specs.Outcomes.{Gives, IsBad}
 use Rattle.xrf_scenario.specs.Machine.{read_on, read_whole, step}
 use Rattle.xrf_scenario.specs.Reading.{Reads}
 use Rattle.xrf_scenario.specs.Said.{IsSaid}
@@ -14,7 +14,7 @@ use Rattle.xrf_scenario.specs.declared.numbered.Numbered.{Numbered}
 use Rattle.xrf_scenario.specs.declared.read_bad.ReadBad.{ReadBad}
 use Rattle.xrf_scenario.specs.declared.read_bad.ReadBad.TheVariants as bad
 use Rattle.xrf_setup.specs.declared.settings.Settings.{Settings}
-use Rattle.xrf_scenario.proofs.ReadingLaws.{found-told, bad-told}
+use Rattle.xrf_scenario.proofs.ReadingLaws.{whole-reads, whole-bad}
 use Rattle.xrf_scenario.proofs.SaidLaws.{scen-said}
 use Rattle.std.proofs.lemmas.List.{length-map}
 
@@ -25,7 +25,7 @@ goes-on so new count line lines e = rw (e, read_on) refl
 
 -- the parts of a reading make a scenario
 pub scenario-held : (so : SoFar) (t : Settings) (records : List (ℕ × List ℕ)) (places : List (Option (List ℕ))) → t ≡ settled so.format so.given → records ≡ by_number 1 places
-    → places ≡ so.records → IsSaid so → is_whole so.part ≡ true
+    → places ≡ so.records → IsSaid so → is_whole so.section ≡ true
     → IsScen (record { settings = t; records = records; clt = so.clt; work_a = so.work_a; work_b = so.work_b; plan = so.plan })
 scenario-held so t records places same_settings same_records same_places said whole =
     subst (λ (u : Settings). IsScen (record { settings = u; records = records; clt = so.clt; work_a = so.work_a; work_b = so.work_b; plan = so.plan })) (sym same_settings)
@@ -47,9 +47,9 @@ choices-held so choices same said = subst (λ (cs : List Numbered). AreChoices (
 -- what is read is spelled by the text
 pub read-found : (text : List ℕ) (so : SoFar) (s : Scen) (choices : List Numbered) → read_whole text ≡ Ok so → s ≡ scenario_of so → choices ≡ so.choices → Reads text s choices
 read-found text so s choices read scenario made =
-    subst (λ (t : Scen). Reads text t choices) (sym scenario) (subst (Reads text (scenario_of so)) (sym made) (found-told text so read))
+    subst (λ (t : Scen). Reads text t choices) (sym scenario) (subst (Reads text (scenario_of so)) (sym made) (whole-reads text so read))
 
 -- what is refused has a bad line
 pub read-bad : (text : List ℕ) (e : ReadBad) → Gives (Err e) (read_whole text) → IsBad text e
-read-bad text (bad.Bad number reason) told = bad-told text (record { line = number; reason = reason }) told
-read-bad text bad.NoMemory told = tt
+read-bad text (bad.Bad number reason) read = whole-bad text (record { line = number; reason = reason }) read
+read-bad text bad.NoMemory read = tt

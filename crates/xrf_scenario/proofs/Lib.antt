@@ -3,6 +3,7 @@ pub mod ReadingLaws
 pub mod KeptLaws
 pub mod CltLaws
 pub mod SaidLaws
+pub mod TakenLaws
 pub mod TakingLaws
 pub mod TextLaws
 pub mod StepLaws

@@ -14,7 +14,7 @@ use Rattle.xrf_setup.specs.Items.{IsItemOf}
 use Rattle.xrf_grammar.specs.Spelling.{choice_text}
 use Rattle.xrf_setup.specs.Choices.{HasLine}
 use Rattle.xrf_grammar.proofs.LineAgain.{header_plain, setting_plain, choosing_plain, choice_plain}
-use Rattle.xrf_scenario.specs.Canonical.{records_said, clt_said, plan_said, scenario_lines, choice_lines, AreChoices}
+use Rattle.xrf_scenario.specs.Canonical.{record_lines, clt_lines, plan_lines, scenario_lines, choice_lines, AreChoices}
 use Rattle.xrf_setup.specs.Scenario.{Scen, IsScen, AreRecords, ArePlanned}
 use Rattle.xrf_setup.specs.Commands.{IsKept, kept_text}
 use Rattle.xrf_scenario.specs.SettingLines.{setting_lines}
@@ -32,7 +32,7 @@ all-plain P text each [] all = tt
 all-plain P text each (x ∷ xs) all = (each x all.0, all-plain P text each xs all.1)
 
 -- the lines of records are plain
-records-plain : (format : Format) (least file : ℕ) (records : List (ℕ × List ℕ)) → 1 ≤ least → file ≤ 256 → AreRecords least file records → ArePlain (records_said records)
+records-plain : (format : Format) (least file : ℕ) (records : List (ℕ × List ℕ)) → 1 ≤ least → file ≤ 256 → AreRecords least file records → ArePlain (record_lines records)
 records-plain format least file [] low high are = tt
 records-plain format least file (r ∷ rs) low high are =
     let from : least ≤ r.0 = are.0.0 in
@@ -41,7 +41,7 @@ records-plain format least file (r ∷ rs) low high are =
     (setting_plain format (Record r.0 r.1) ((omega (arith, low, from), omega (arith, to, high)), are.1), records-plain format (r.0 + 1) file rs next high are.2)
 
 -- so are those of a plan
-plan-plain : (format : Format) (least : ℕ) (plan : List (ℕ × Choice)) → ArePlanned least plan → ArePlain (plan_said plan)
+plan-plain : (format : Format) (least : ℕ) (plan : List (ℕ × Choice)) → ArePlanned least plan → ArePlain (plan_lines plan)
 plan-plain format least [] are = tt
 plan-plain format least (p ∷ ps) are =
     let to : p.0 ≤ 200 = are.0.1 in
@@ -69,8 +69,8 @@ scenario-plain s is =
     let work_b = all-plain (IsItemOf format) (λ (i : Item). line_text (Work B i)) (λ (i : Item). setting_plain format (Work B i)) s.work_b is.work_b in
     let plan = plan-plain format 0 s.plan is.plan in (
       header_plain format,
-      all-six IsPlain (map line_text (setting_lines s.settings)) (records_said s.records) (clt_said s.clt) (map (λ (i : Item). line_text (Work A i)) s.work_a)
-          (map (λ (i : Item). line_text (Work B i)) s.work_b) (plan_said s.plan) settings records clt work_a work_b plan,
+      all-six IsPlain (map line_text (setting_lines s.settings)) (record_lines s.records) (clt_lines s.clt) (map (λ (i : Item). line_text (Work A i)) s.work_a)
+          (map (λ (i : Item). line_text (Work B i)) s.work_b) (plan_lines s.plan) settings records clt work_a work_b plan,
     )
 
 -- The lines of choices are plain.

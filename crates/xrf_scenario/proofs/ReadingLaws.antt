@@ -18,8 +18,8 @@ use Rattle.xrf_setup.specs.Scenario.{Scen}
 use Rattle.xrf_scenario.specs.Settled.{scenario_of}
 use Rattle.xrf_scenario.specs.SoFar.{SoFar, nothing_said, is_whole}
 use Rattle.xrf_scenario.specs.Taking.{take}
-use Rattle.xrf_scenario.specs.declared.given.Part.{Part}
-use Rattle.xrf_scenario.specs.declared.given.Part.TheVariants.{Start, Settings, Making, Whole}
+use Rattle.xrf_scenario.specs.declared.section.Section.{Section}
+use Rattle.xrf_scenario.specs.declared.section.Section.TheVariants.{Start, Settings, Making, Whole}
 use Rattle.xrf_scenario.specs.declared.numbered.Numbered.{Numbered}
 
 -- a line of some forms that is taken is spelled
@@ -32,8 +32,8 @@ header-taken : (so next : SoFar) (read : Result Format Reason) → take_header s
 header-taken so next (Ok format) h = let same : next ≡ begun so format = cc in (format, (refl, same))
 header-taken so next (Err reason) h = absurd (cc)
 
--- what is taken in a part says something there
-taken-says : (part : Part) (number : ℕ) (so next : SoFar) (ws : List (List ℕ)) → take_words part number so ws ≡ Ok next → SaysIn part number so ws next
+-- what is taken in a section says something there
+taken-says : (section : Section) (number : ℕ) (so next : SoFar) (ws : List (List ℕ)) → take_words section number so ws ≡ Ok next → SaysIn section number so ws next
 taken-says Start number so next ws h =
     let k = header-taken so next (header_of ws) h in
     (k.0, (header-found ws k.0 k.1.0, k.1.1))
@@ -46,7 +46,7 @@ taken-says Making number so next ws h =
 taken-says Whole number so next ws h = absurd (cc)
 
 -- and what says something is taken
-says-taken : (part : Part) (number : ℕ) (so next : SoFar) (ws : List (List ℕ)) → SaysIn part number so ws next → take_words part number so ws ≡ Ok next
+says-taken : (section : Section) (number : ℕ) (so next : SoFar) (ws : List (List ℕ)) → SaysIn section number so ws next → take_words section number so ws ≡ Ok next
 says-taken Start number so next ws h = ap (λ (w : List (List ℕ)). take_header so (header_of w)) h.1.0 ∙ ap (take_header so) (header_again h.0) ∙ ap (λ (n : SoFar). Ok n) (sym h.1.1)
 says-taken Settings number so next ws h = ap (take_line number so ws) (line-again (settings_of so.format) ws h.0 (settings-apart so.format) h.1.0) ∙ h.1.1
 says-taken Making number so next ws h = ap (take_line number so ws) (line-again choices_table ws h.0 choices-apart h.1.0) ∙ h.1.1
@@ -54,19 +54,19 @@ says-taken Whole number so next ws h = absurd h
 
 -- a step that is taken says something
 pub step-says : (number : ℕ) (so next : SoFar) (line : List ℕ) → step number so line ≡ Ok next → Says number so line next
-step-says number so next line h = by (is_skipped line) (is_whole so.part) h
+step-says number so next line h = by (is_skipped line) (is_whole so.section) h
   where
     report : (r : Bool) → ◌≡◌ {A = Result SoFar Reason} (if r then Ok so else Err AfterEnd) (Ok next) → IsTrue r × (next ≡ so)
     report true e = let same : next ≡ so = cc in (refl, same)
     report false e = absurd (cc)
 
-    bytes : (o : Option Reason) → ◌≡◌ {A = Result SoFar Reason} (elim o [ Some reason ↦ Err reason | None ↦ take_words so.part number so (words line) ]) (Ok next)
-        → (o ≡ None) × SaysIn so.part number so (words line) next
+    bytes : (o : Option Reason) → ◌≡◌ {A = Result SoFar Reason} (elim o [ Some reason ↦ Err reason | None ↦ take_words so.section number so (words line) ]) (Ok next)
+        → (o ≡ None) × SaysIn so.section number so (words line) next
     bytes (Some reason) e = absurd (cc)
-    bytes None e = (refl, taken-says so.part number so next (words line) e)
+    bytes None e = (refl, taken-says so.section number so next (words line) e)
 
     by : (skipped ended : Bool) → ◌≡◌ {A = Result SoFar Reason} (if skipped then Ok so else if ended then (if is_report line then Ok so else Err AfterEnd)
-        else elim (bytes_fault line) [ Some reason ↦ Err reason | None ↦ take_words so.part number so (words line) ]) (Ok next)
+        else elim (bytes_fault line) [ Some reason ↦ Err reason | None ↦ take_words so.section number so (words line) ]) (Ok next)
         → SaysThen skipped ended number so line next
     by true ended e = let same : next ≡ so = cc in same
     by false true e = report (is_report line) e
@@ -74,20 +74,20 @@ step-says number so next line h = by (is_skipped line) (is_whole so.part) h
 
 -- and what says something is a step
 pub says-step : (number : ℕ) (so next : SoFar) (line : List ℕ) → Says number so line next → step number so line ≡ Ok next
-says-step number so next line h = by (is_skipped line) (is_whole so.part) h
+says-step number so next line h = by (is_skipped line) (is_whole so.section) h
   where
     report : (r : Bool) → IsTrue r → next ≡ so → ◌≡◌ {A = Result SoFar Reason} (if r then Ok so else Err AfterEnd) (Ok next)
     report true t e = ap (λ (n : SoFar). Ok n) (sym e)
     report false t e = absurd (cc)
 
-    bytes : (o : Option Reason) → o ≡ None → SaysIn so.part number so (words line) next
-        → ◌≡◌ {A = Result SoFar Reason} (elim o [ Some reason ↦ Err reason | None ↦ take_words so.part number so (words line) ]) (Ok next)
+    bytes : (o : Option Reason) → o ≡ None → SaysIn so.section number so (words line) next
+        → ◌≡◌ {A = Result SoFar Reason} (elim o [ Some reason ↦ Err reason | None ↦ take_words so.section number so (words line) ]) (Ok next)
     bytes (Some reason) e k = absurd (cc)
-    bytes None e k = says-taken so.part number so next (words line) k
+    bytes None e k = says-taken so.section number so next (words line) k
 
     by : (skipped ended : Bool) → SaysThen skipped ended number so line next
         → ◌≡◌ {A = Result SoFar Reason} (if skipped then Ok so else if ended then (if is_report line then Ok so else Err AfterEnd)
-        else elim (bytes_fault line) [ Some reason ↦ Err reason | None ↦ take_words so.part number so (words line) ]) (Ok next)
+        else elim (bytes_fault line) [ Some reason ↦ Err reason | None ↦ take_words so.section number so (words line) ]) (Ok next)
     by true ended e = ap (λ (n : SoFar). Ok n) (sym e)
     by false true e = report (is_report line) e.0 e.1
     by false false e = bytes (bytes_fault line) e.0 e.1
@@ -115,13 +115,13 @@ on-behind count so last (line ∷ lines) rest h =
 -- lines that are read to the end say something
 record Ended (count : ℕ) (so : SoFar) (lines : List (List ℕ)) (last : SoFar) : Type 0 where
   said : SaysAll count so lines last
-  whole : is_whole last.part ≡ true
+  whole : is_whole last.section ≡ true
 
 ended : (count : ℕ) (so last : SoFar) (lines : List (List ℕ)) → read_on so count lines ≡ Ok last → Ended count so lines last
-ended count so last [] h = by (is_whole so.part) refl h
+ended count so last [] h = by (is_whole so.section) refl h
   where
-    by : (b : Bool) → is_whole so.part ≡ b → ◌≡◌ {A = Result SoFar Fault} (if b then Ok so else Err (record { line = max 1 count; reason = NoEnd })) (Ok last) → Ended count so [] last
-    by true e k = let same : so ≡ last = cc in record { said = sym same; whole = subst (λ (s : SoFar). is_whole s.part ≡ true) same e }
+    by : (b : Bool) → is_whole so.section ≡ b → ◌≡◌ {A = Result SoFar Fault} (if b then Ok so else Err (record { line = max 1 count; reason = NoEnd })) (Ok last) → Ended count so [] last
+    by true e k = let same : so ≡ last = cc in record { said = sym same; whole = subst (λ (s : SoFar). is_whole s.section ≡ true) same e }
     by false e k = absurd (cc)
 ended count so last (line ∷ lines) h = by (step (count + 1) so line) refl h (λ next k. ended (count + 1) next last lines k)
   where
@@ -134,8 +134,8 @@ ended count so last (line ∷ lines) h = by (step (count + 1) so line) refl h (�
         record { said = (next, (step-says (count + 1) so next line e, more.said)); whole = more.whole }
 
 -- what is read is spelled
-pub found-told : (text : List ℕ) (so : SoFar) → read_whole text ≡ Ok so → Reads text (scenario_of so) so.choices
-found-told text so h =
+pub whole-reads : (text : List ℕ) (so : SoFar) → read_whole text ≡ Ok so → Reads text (scenario_of so) so.choices
+whole-reads text so h =
     let end = ended 0 nothing_said so (text_lines text) h in
     record { last = so; said = end.said; whole = end.whole; scenario = refl; made = refl }
 
@@ -143,7 +143,7 @@ found-told text so h =
 pub spelled-read : (text : List ℕ) (s : Scen) (choices : List Numbered) (r : Reads text s choices) → read_whole text ≡ Ok r.last
 spelled-read text s choices r = all (text_lines text) r.said
   where
-    close : (count : ℕ) (last : SoFar) → is_whole last.part ≡ true → read_on last count [] ≡ Ok last
+    close : (count : ℕ) (last : SoFar) → is_whole last.section ≡ true → read_on last count [] ≡ Ok last
     close count last e = rw e refl
 
     all : (lines : List (List ℕ)) → SaysAll 0 nothing_said lines r.last → read_on nothing_said 0 lines ≡ Ok r.last
@@ -162,12 +162,12 @@ said-more count so mid next (first ∷ lines) line said says =
 
 faulty : (text : List ℕ) (fault : Fault) (before lines : List (List ℕ)) (so : SoFar) → SaysAll 0 nothing_said before so → text_lines text ≡ before ++ lines
     → read_on so (length before) lines ≡ Err fault → HasBad text fault.line fault.reason
-faulty text fault before [] so said spelled h = by (is_whole so.part) refl h
+faulty text fault before [] so said spelled h = by (is_whole so.section) refl h
   where
     lines : text_lines text ≡ before
     lines = spelled ∙ append-nil before
 
-    early : is_whole so.part ≡ false → EndsEarly text (max 1 (length before)) NoEnd
+    early : is_whole so.section ≡ false → EndsEarly text (max 1 (length before)) NoEnd
     early e = record {
       last = so;
       said = subst (λ (ls : List (List ℕ)). SaysAll 0 nothing_said ls so) (sym lines) said;
@@ -176,7 +176,7 @@ faulty text fault before [] so said spelled h = by (is_whole so.part) refl h
       no_end = refl;
     }
 
-    by : (b : Bool) → is_whole so.part ≡ b → ◌≡◌ {A = Result SoFar Fault} (if b then Ok so else Err (record { line = max 1 (length before); reason = NoEnd })) (Err fault)
+    by : (b : Bool) → is_whole so.section ≡ b → ◌≡◌ {A = Result SoFar Fault} (if b then Ok so else Err (record { line = max 1 (length before); reason = NoEnd })) (Err fault)
         → HasBad text fault.line fault.reason
     by true e k = absurd (cc)
     by false e k =
@@ -200,8 +200,8 @@ faulty text fault before (line ∷ lines) so said spelled h =
     by (Ok next) e k ih = ih next e k
 
 -- a fault is that of the first bad line
-pub bad-told : (text : List ℕ) (fault : Fault) → read_whole text ≡ Err fault → HasBad text fault.line fault.reason
-bad-told text fault h = faulty text fault [] (text_lines text) nothing_said refl refl h
+pub whole-bad : (text : List ℕ) (fault : Fault) → read_whole text ≡ Err fault → HasBad text fault.line fault.reason
+whole-bad text fault h = faulty text fault [] (text_lines text) nothing_said refl refl h
 
 abbrev fault_of : ℕ → Reason → Fault
 fault_of number reason = record { line = number; reason = reason }

@@ -1,4 +1,4 @@
--- The reason that reading tells of a line is the first of those that hold of it.
+-- The reason for which a line is refused is the first of those that hold of it.
 use Rattle.std.proofs.Common.{◌≡◌, ◌≢◌, ◌⊎◌, inl, inr, ◌≤◌, ◌+◌, ℕ, Bool, true, false, not, if◌then◌else◌, nat_lt, nat_le, Option, Some, None, is_none, get_or, slice_set, replicate, List, [], ◌∷◌, ◌++◌, ◌-◌, length, codes, Result, Ok, Err, refl, sym, ◌∙◌, ap, subst, arith}
 use Rattle.std.specs.List.{list_all}
 use Rattle.std.specs.Option.{is_some}
@@ -30,19 +30,19 @@ use Rattle.xrf_scenario.specs.Reasons.{header_words, forms_of, has_forms, Spells
 use Rattle.xrf_scenario.specs.SoFar.{SoFar, is_whole}
 use Rattle.xrf_scenario.specs.Taking.{once, with_room, free_record, last_tick, numbered, are_within, take}
 use Rattle.xrf_scenario.specs.declared.given.Given.{Given}
-use Rattle.xrf_scenario.specs.declared.given.Part.{Part}
-use Rattle.xrf_scenario.specs.declared.given.Part.TheVariants.{Start, Settings, Making, Whole}
+use Rattle.xrf_scenario.specs.declared.section.Section.{Section}
+use Rattle.xrf_scenario.specs.declared.section.Section.TheVariants.{Start, Settings, Making, Whole}
 use Rattle.xrf_scenario.proofs.KeptLaws.{bytes-kept}
 
--- what is told of a line: where it is taken no reason holds, and else the first of those that hold
-abbrev pub IsToldOf : (Reason → Type 0) → Result SoFar Reason → Type 0
-IsToldOf Held (Ok next) = (reason : Reason) → Held reason → ⊥
-IsToldOf Held (Err reason) = IsFirst Held reason
+-- where a line is taken no reason holds, and else it is refused for the first of those that hold
+abbrev pub IsFirstOf : (Reason → Type 0) → Result SoFar Reason → Type 0
+IsFirstOf Held (Ok next) = (reason : Reason) → Held reason → ⊥
+IsFirstOf Held (Err reason) = IsFirst Held reason
 
 -- the same of reasons that hold where others do
-told-of : (Held Other : Reason → Type 0) (r : Result SoFar Reason) → ((reason : Reason) → Held reason → Other reason) → ((reason : Reason) → Other reason → Held reason) → IsToldOf Other r → IsToldOf Held r
-told-of Held Other (Ok next) to back told = λ reason h. told reason (to reason h)
-told-of Held Other (Err reason) to back told = record { holds = back reason told.holds; first = λ other h. told.first other (to other h) }
+first-of : (Held Other : Reason → Type 0) (r : Result SoFar Reason) → ((reason : Reason) → Held reason → Other reason) → ((reason : Reason) → Other reason → Held reason) → IsFirstOf Other r → IsFirstOf Held r
+first-of Held Other (Ok next) to back answered = λ reason h. answered reason (to reason h)
+first-of Held Other (Err reason) to back answered = record { holds = back reason answered.holds; first = λ other h. answered.first other (to other h) }
 
 -- the reasons of a line that its words spell, by its tests
 abbrev Tested : Bool → Bool → Bool → Bool → Reason → Type 0
@@ -108,12 +108,12 @@ none-holds TooMany h = cc
 none-holds RrnRange h = cc
 none-holds reason h = h
 
-by-told : (fall given over outside : Bool) (next : SoFar) → IsToldOf (Tested fall given over outside) (By fall given over outside next)
-by-told true given over outside next = PlanOrder-first given over outside
-by-told false true over outside next = Twice-first over outside
-by-told false false true outside next = TooMany-first outside
-by-told false false false true next = RrnRange-first
-by-told false false false false next = none-holds
+by-first : (fall given over outside : Bool) (next : SoFar) → IsFirstOf (Tested fall given over outside) (By fall given over outside next)
+by-first true given over outside next = PlanOrder-first given over outside
+by-first false true over outside next = Twice-first over outside
+by-first false false true outside next = TooMany-first outside
+by-first false false false true next = RrnRange-first
+by-first false false false false next = none-holds
 
 -- a line is taken by its tests
 once-by : {X : Type 0} (o : Option X) (so : SoFar) (g : Given) → (next : SoFar) × (once o so g ≡ By false (is_some o) false false next)
@@ -157,57 +157,57 @@ take-by number so ws Clt = room-by (nat_lt (length so.clt) 100) (record so { clt
 take-by number so ws (Work A item) = room-by (nat_lt (length so.work_a) 2000) (record so { work_a = so.work_a ++ item ∷ [] })
 take-by number so ws (Work B item) = room-by (nat_lt (length so.work_b) 2000) (record so { work_b = so.work_b ++ item ∷ [] })
 take-by number so ws (Plan tick choice) = plan-by (nat_lt tick (last_tick so.plan)) (nat_lt (length so.plan) 500) (record so { plan = so.plan ++ (tick, choice) ∷ [] })
-take-by number so ws Choices = within-by (are_within so) (record so { part = Making })
+take-by number so ws Choices = within-by (are_within so) (record so { section = Making })
 take-by number so ws (Once choice) = room-by (nat_le (length so.choices + 1) 8192) (record so { choices = so.choices ++ numbered number choice ∷ [] })
 take-by number so ws (Times choice count) = room-by (nat_le (length so.choices + count) 8192) (record so { choices = so.choices ++ replicate count (numbered number choice) })
-take-by number so ws End = (record so { part = Whole }, refl)
+take-by number so ws End = (record so { section = Whole }, refl)
 
--- what is known of a line that is tested by the forms of its part
+-- what is known of a line that is tested by the forms of its section
 record IsTested (so : SoFar) (text : List ℕ) : Type 0 where
-  has : has_forms so.part ≡ true
+  has : has_forms so.section ≡ true
   bytes : list_all is_printable text ≡ true
   short : length text ≤ 300
-  apart : are_apart (forms_of so.part so.format) ≡ true
-  not_start : so.part ≢ Start
-  not_whole : so.part ≢ Whole
+  apart : are_apart (forms_of so.section so.format) ≡ true
+  not_start : so.section ≢ Start
+  not_whole : so.section ≢ Whole
 
 -- words that spell a line are read as it
-read-again : (so : SoFar) (text : List ℕ) (l : Line) → IsTested so text → SpellsNext so text l → line_of (forms_of so.part so.format) (words text) ≡ Ok l
-read-again so text l is spelled = line-again (forms_of so.part so.format) (words text) l is.apart spelled
+read-again : (so : SoFar) (text : List ℕ) (l : Line) → IsTested so text → SpellsNext so text l → line_of (forms_of so.section so.format) (words text) ≡ Ok l
+read-again so text l is spelled = line-again (forms_of so.section so.format) (words text) l is.apart spelled
 
 -- reasons of a text where no line is spelled
-unread : (so : SoFar) (text : List ℕ) (told other : Reason) → IsTested so text → line_of (forms_of so.part so.format) (words text) ≡ Err told → HoldsOfText so text other → ⊥
-unread so text told BadByte is e h = let clash : true ≡ false = sym is.bytes ∙ h.1 in cc
-unread so text told LongLine is e h = omega (arith, is.short, h.1)
-unread so text told NoHeader is e h = is.not_start h.0
-unread so text told BadFormat is e h = is.not_start h.0
-unread so text told AfterEnd is e h = is.not_whole h.0
-unread so text told PlanOrder is e h = let clash : Ok h.line ≡ Err told = sym (read-again so text h.line is h.spelled) ∙ e in cc
-unread so text told Twice is e h = let clash : Ok h.line ≡ Err told = sym (read-again so text h.line is h.spelled) ∙ e in cc
-unread so text told TooMany is e h = let clash : Ok h.line ≡ Err told = sym (read-again so text h.line is h.spelled) ∙ e in cc
-unread so text told RrnRange is e h = let clash : Ok h.line ≡ Err told = sym (read-again so text h.line is h.spelled) ∙ e in cc
-unread so text told other is e h = h
+unread : (so : SoFar) (text : List ℕ) (answered other : Reason) → IsTested so text → line_of (forms_of so.section so.format) (words text) ≡ Err answered → HoldsOfText so text other → ⊥
+unread so text answered BadByte is e h = let clash : true ≡ false = sym is.bytes ∙ h.1 in cc
+unread so text answered LongLine is e h = omega (arith, is.short, h.1)
+unread so text answered NoHeader is e h = is.not_start h.0
+unread so text answered BadFormat is e h = is.not_start h.0
+unread so text answered AfterEnd is e h = is.not_whole h.0
+unread so text answered PlanOrder is e h = let clash : Ok h.line ≡ Err answered = sym (read-again so text h.line is h.spelled) ∙ e in cc
+unread so text answered Twice is e h = let clash : Ok h.line ≡ Err answered = sym (read-again so text h.line is h.spelled) ∙ e in cc
+unread so text answered TooMany is e h = let clash : Ok h.line ≡ Err answered = sym (read-again so text h.line is h.spelled) ∙ e in cc
+unread so text answered RrnRange is e h = let clash : Ok h.line ≡ Err answered = sym (read-again so text h.line is h.spelled) ∙ e in cc
+unread so text answered other is e h = h
 
 -- the tests of the one line that the words spell
-same-line : (so : SoFar) (text : List ℕ) (l : Line) (test : Line → Bool) → IsTested so text → line_of (forms_of so.part so.format) (words text) ≡ Ok l → SpellsBad so text test → test l ≡ true
+same-line : (so : SoFar) (text : List ℕ) (l : Line) (test : Line → Bool) → IsTested so text → line_of (forms_of so.section so.format) (words text) ≡ Ok l → SpellsBad so text test → test l ≡ true
 same-line so text l test is e h =
     let both : Ok h.line ≡ Ok l = sym (read-again so text h.line is h.spelled) ∙ e in
     let same : h.line ≡ l = cc in
     subst (λ (k : Line). test k ≡ true) same h.bad
 
-spelled-bad : (so : SoFar) (text : List ℕ) (l : Line) (test : Line → Bool) → line_of (forms_of so.part so.format) (words text) ≡ Ok l → test l ≡ true → SpellsBad so text test
-spelled-bad so text l test e h = record { line = l; spelled = line-found (forms_of so.part so.format) (words text) l e; bad = h }
+spelled-bad : (so : SoFar) (text : List ℕ) (l : Line) (test : Line → Bool) → line_of (forms_of so.section so.format) (words text) ≡ Ok l → test l ≡ true → SpellsBad so text test
+spelled-bad so text l test e h = record { line = l; spelled = line-found (forms_of so.section so.format) (words text) l e; bad = h }
 
--- what is told of a line by the forms of its part
-forms-told : (number : ℕ) (so : SoFar) (text : List ℕ) → IsTested so text
-    → IsToldOf (Holds so text) (take_line number so (words text) (line_of (forms_of so.part so.format) (words text)))
-forms-told number so text is = by (line_of (forms_of so.part so.format) (words text)) refl (line-told (forms_of so.part so.format) (words text))
+-- a line by the forms of its section
+forms-first : (number : ℕ) (so : SoFar) (text : List ℕ) → IsTested so text
+    → IsFirstOf (Holds so text) (take_line number so (words text) (line_of (forms_of so.section so.format) (words text)))
+forms-first number so text is = by (line_of (forms_of so.section so.format) (words text)) refl (line-told (forms_of so.section so.format) (words text))
   where
-    of-words : (told other : Reason) → line_of (forms_of so.part so.format) (words text) ≡ Err told → IsFirst (IsFaultOf (forms_of so.part so.format) (words text)) told → Holds so text other → rank told ≤ rank other
-    of-words told other e first (inl h) = absurd (unread so text told other is e h)
-    of-words told other e first (inr h) = first.first other h.1
+    of-words : (answered other : Reason) → line_of (forms_of so.section so.format) (words text) ≡ Err answered → IsFirst (IsFaultOf (forms_of so.section so.format) (words text)) answered → Holds so text other → rank answered ≤ rank other
+    of-words answered other e first (inl h) = absurd (unread so text answered other is e h)
+    of-words answered other e first (inr h) = first.first other h.1
 
-    to : (l : Line) → line_of (forms_of so.part so.format) (words text) ≡ Ok l → ((reason : Reason) → IsFaultOf (forms_of so.part so.format) (words text) reason → ⊥)
+    to : (l : Line) → line_of (forms_of so.section so.format) (words text) ≡ Ok l → ((reason : Reason) → IsFaultOf (forms_of so.section so.format) (words text) reason → ⊥)
         → (reason : Reason) → Holds so text reason → Tested (falls so l) (is_given so l) (is_over so l) (is_outside so l) reason
     to l e none reason (inr h) = absurd (none reason h.1)
     to l e none BadByte (inl h) = let clash : true ≡ false = sym is.bytes ∙ h.1 in absurd (cc)
@@ -221,7 +221,7 @@ forms-told number so text is = by (line_of (forms_of so.part so.format) (words t
     to l e none RrnRange (inl h) = same-line so text l (is_outside so) is e h
     to l e none reason (inl h) = absurd h
 
-    back : (l : Line) → line_of (forms_of so.part so.format) (words text) ≡ Ok l
+    back : (l : Line) → line_of (forms_of so.section so.format) (words text) ≡ Ok l
         → (reason : Reason) → Tested (falls so l) (is_given so l) (is_over so l) (is_outside so l) reason → Holds so text reason
     back l e PlanOrder h = inl (spelled-bad so text l (falls so) e h)
     back l e Twice h = inl (spelled-bad so text l (is_given so) e h)
@@ -229,16 +229,16 @@ forms-told number so text is = by (line_of (forms_of so.part so.format) (words t
     back l e RrnRange h = inl (spelled-bad so text l (is_outside so) e h)
     back l e reason h = absurd h
 
-    by : (r : Result Line Reason) → line_of (forms_of so.part so.format) (words text) ≡ r → IsLineTold (IsFaultOf (forms_of so.part so.format) (words text)) r
-        → IsToldOf (Holds so text) (take_line number so (words text) r)
-    by (Err told) e first = record { holds = inr (is.has, first.holds); first = λ other h. of-words told other e first h }
+    by : (r : Result Line Reason) → line_of (forms_of so.section so.format) (words text) ≡ r → IsLineTold (IsFaultOf (forms_of so.section so.format) (words text)) r
+        → IsFirstOf (Holds so text) (take_line number so (words text) r)
+    by (Err answered) e first = record { holds = inr (is.has, first.holds); first = λ other h. of-words answered other e first h }
     by (Ok l) e none =
         let made = take-by number so (words text) l in
-        told-of (Holds so text) (Tested (falls so l) (is_given so l) (is_over so l) (is_outside so l)) (take number so (words text) l) (to l e none) (back l e)
-        (subst (IsToldOf (Tested (falls so l) (is_given so l) (is_over so l) (is_outside so l))) (sym made.1) (by-told (falls so l) (is_given so l) (is_over so l) (is_outside so l) made.0))
+        first-of (Holds so text) (Tested (falls so l) (is_given so l) (is_over so l) (is_outside so l)) (take number so (words text) l) (to l e none) (back l e)
+        (subst (IsFirstOf (Tested (falls so l) (is_given so l) (is_over so l) (is_outside so l))) (sym made.1) (by-first (falls so l) (is_given so l) (is_over so l) (is_outside so l) made.0))
 
 -- no words are spelled by no forms
-no-forms : (so : SoFar) (text : List ℕ) (l : Line) → forms_of so.part so.format ≡ [] → SpellsNext so text l → ⊥
+no-forms : (so : SoFar) (text : List ℕ) (l : Line) → forms_of so.section so.format ≡ [] → SpellsNext so text l → ⊥
 no-forms so text l none spelled = subst (λ (fs : List Form). IsAmong spelled.form fs) none spelled.among
 
 -- words of a header
@@ -263,9 +263,9 @@ not-second : (ws : List (List ℕ)) (format : Format) → second ws ≢ codes "1
 not-second ws One one two same = one (ap second same)
 not-second ws Two one two same = two (ap second same)
 
-header-first : (format : Format) → first (header_words format) ≡ codes "XRF"
-header-first One = refl
-header-first Two = refl
+begins-header : (format : Format) → first (header_words format) ≡ codes "XRF"
+begins-header One = refl
+begins-header Two = refl
 
 -- the reasons of a first line, by its words
 abbrev OfHeader : List (List ℕ) → Reason → Type 0
@@ -274,11 +274,11 @@ OfHeader ws BadFormat = (format : Format) → ws ≢ header_words format
 OfHeader ws reason = ⊥
 
 -- a header that is read
-read-header : (so : SoFar) (ws : List (List ℕ)) (format : Format) → ws ≡ header_words format → IsToldOf (OfHeader ws) (take_header so (Ok format))
+read-header : (so : SoFar) (ws : List (List ℕ)) (format : Format) → ws ≡ header_words format → IsFirstOf (OfHeader ws) (take_header so (Ok format))
 read-header so ws format is = none
   where
     none : (reason : Reason) → OfHeader ws reason → ⊥
-    none NoHeader h = h (ap first is ∙ header-first format)
+    none NoHeader h = h (ap first is ∙ begins-header format)
     none BadFormat h = h format is
     none reason h = h
 
@@ -299,11 +299,11 @@ bad-format ws is none = record { holds = none; first = by }
     by BadFormat h = omega arith
     by reason h = absurd h
 
-header-told : (so : SoFar) (ws : List (List ℕ)) → IsToldOf (OfHeader ws) (take_header so (header_of ws))
-header-told so ws = by (bytes_eq (first ws) (codes "XRF")) (are_two ws) (bytes_eq (second ws) (codes "1")) (bytes_eq (second ws) (codes "2")) refl refl refl refl
+header-first : (so : SoFar) (ws : List (List ℕ)) → IsFirstOf (OfHeader ws) (take_header so (header_of ws))
+header-first so ws = by (bytes_eq (first ws) (codes "XRF")) (are_two ws) (bytes_eq (second ws) (codes "1")) (bytes_eq (second ws) (codes "2")) refl refl refl refl
   where
     by : (xrf two one-word two-word : Bool) → bytes_eq (first ws) (codes "XRF") ≡ xrf → are_two ws ≡ two → bytes_eq (second ws) (codes "1") ≡ one-word → bytes_eq (second ws) (codes "2") ≡ two-word
-        → IsToldOf (OfHeader ws) (take_header so (if not xrf then Err NoHeader else if not two then Err BadFormat else if one-word then Ok One else if two-word then Ok Two else Err BadFormat))
+        → IsFirstOf (OfHeader ws) (take_header so (if not xrf then Err NoHeader else if not two then Err BadFormat else if one-word then Ok One else if two-word then Ok Two else Err BadFormat))
     by false two a b e f g h = no-header ws (differs (first ws) (codes "XRF") e)
     by true false a b e f g h = bad-format ws (equal (first ws) (codes "XRF") e) (λ format. not-two ws format f)
     by true true true b e f g h = read-header so ws One (header-two ws (codes "XRF") (codes "1") f (equal (first ws) (codes "XRF") e) (equal (second ws) (codes "1") g))
@@ -327,13 +327,13 @@ header-found ws format h = by (bytes_eq (first ws) (codes "XRF")) (are_two ws) (
         header-two ws (codes "XRF") (codes "2") f (equal (first ws) (codes "XRF") e) (equal (second ws) (codes "2") i) ∙ ap header_words same
     by true true false false e f g i k = absurd (cc)
 
--- what is told of a first line
-start-told : (so : SoFar) (text : List ℕ) → so.part ≡ Start → list_all is_printable text ≡ true → length text ≤ 300
-    → IsToldOf (Holds so text) (take_header so (header_of (words text)))
-start-told so text here bytes short = told-of (Holds so text) (OfHeader (words text)) (take_header so (header_of (words text))) to back (header-told so (words text))
+-- a first line
+start-first : (so : SoFar) (text : List ℕ) → so.section ≡ Start → list_all is_printable text ≡ true → length text ≤ 300
+    → IsFirstOf (Holds so text) (take_header so (header_of (words text)))
+start-first so text here bytes short = first-of (Holds so text) (OfHeader (words text)) (take_header so (header_of (words text))) to back (header-first so (words text))
   where
-    none : forms_of so.part so.format ≡ []
-    none = ap (λ (p : Part). forms_of p so.format) here
+    none : forms_of so.section so.format ≡ []
+    none = ap (λ (p : Section). forms_of p so.format) here
 
     to : (reason : Reason) → Holds so text reason → OfHeader (words text) reason
     to reason (inr h) = let clash : false ≡ true = sym (ap has_forms here) ∙ h.0 in absurd (cc)
@@ -353,12 +353,12 @@ start-told so text here bytes short = told-of (Holds so text) (OfHeader (words t
     back BadFormat h = inl (here, h)
     back reason h = absurd h
 
--- what is told of a line behind END
-whole-told : (so : SoFar) (text : List ℕ) → so.part ≡ Whole → IsToldOf (Holds so text) (if is_report text then Ok so else Err AfterEnd)
-whole-told so text here = by (is_report text) refl
+-- a line behind END
+whole-first : (so : SoFar) (text : List ℕ) → so.section ≡ Whole → IsFirstOf (Holds so text) (if is_report text then Ok so else Err AfterEnd)
+whole-first so text here = by (is_report text) refl
   where
-    none : forms_of so.part so.format ≡ []
-    none = ap (λ (p : Part). forms_of p so.format) here
+    none : forms_of so.section so.format ≡ []
+    none = ap (λ (p : Section). forms_of p so.format) here
 
     only : (reason : Reason) → Holds so text reason → (reason ≡ AfterEnd) × (is_report text ≡ false)
     only reason (inr h) = let clash : false ≡ true = sym (ap has_forms here) ∙ h.0 in absurd (cc)
@@ -373,17 +373,17 @@ whole-told so text here = by (is_report text) refl
     only RrnRange (inl h) = absurd (no-forms so text h.line none h.spelled)
     only reason (inl h) = absurd h
 
-    by : (b : Bool) → is_report text ≡ b → IsToldOf (Holds so text) (if b then Ok so else Err AfterEnd)
+    by : (b : Bool) → is_report text ≡ b → IsFirstOf (Holds so text) (if b then Ok so else Err AfterEnd)
     by true e = λ reason h. let clash : true ≡ false = sym e ∙ (only reason h).1 in absurd (cc)
     by false e = record { holds = inl (here, e); first = λ other h. let same : rank AfterEnd ≡ rank other = ap rank (sym (only other h).0) in omega (arith, same) }
 
 -- a byte fault comes before all reasons behind it
-bytes-first : (so : SoFar) (text : List ℕ) → so.part ≢ Whole → is_whole so.part ≡ false → list_all form_passes (forms_of so.part so.format) ≡ true
+bytes-first : (so : SoFar) (text : List ℕ) → so.section ≢ Whole → is_whole so.section ≡ false → list_all form_passes (forms_of so.section so.format) ≡ true
     → (reason : Reason) → bytes_fault text ≡ Some reason → IsFirst (Holds so text) reason
 bytes-first so text not_whole before passes reason fault = by (list_all is_printable text) (nat_lt 300 (length text)) refl refl fault
   where
     behind-long : (other : Reason) → (list_all is_printable text ≡ true ⊎ (other ≡ BadByte → ⊥)) → Holds so text other → 2 ≤ rank other
-    behind-long other ok (inr h) = let of : 7 ≤ rank other = (words-told (forms_of so.part so.format) (words text) other passes h.1).0 in omega (arith, of)
+    behind-long other ok (inr h) = let of : 7 ≤ rank other = (words-told (forms_of so.section so.format) (words text) other passes h.1).0 in omega (arith, of)
     behind-long BadByte (inl all) (inl h) = let clash : true ≡ false = sym all ∙ h.1 in absurd (cc)
     behind-long BadByte (inr other) (inl h) = absurd (other refl)
     behind-long LongLine ok (inl h) = omega arith
@@ -410,44 +410,44 @@ bytes-first so text not_whole before passes reason fault = by (list_all is_print
         subst (IsFirst (Holds so text)) same (record { holds = inl (before, ltb-true 300 (length text) l); first = λ other h. behind-long other (inl e) h })
     by true false e l k = absurd (cc)
 
--- What is told of a line that is not skipped: the first of the reasons that hold of it, in their
--- order, and where none holds what is said next.
-pub step-told : (number : ℕ) (so : SoFar) (text : List ℕ) → is_skipped text ≡ false → IsToldOf (Holds so text) (step number so text)
-step-told number so text shown = rw shown (by so.part refl)
+-- A line that is not skipped is refused for the first of the reasons that hold of it, in their
+-- order, and it is taken where none holds.
+pub step-first : (number : ℕ) (so : SoFar) (text : List ℕ) → is_skipped text ≡ false → IsFirstOf (Holds so text) (step number so text)
+step-first number so text shown = rw shown (by so.section refl)
   where
-    tested : (part : Part) → so.part ≡ part → has_forms part ≡ true → are_apart (forms_of part so.format) ≡ true → bytes_fault text ≡ None → IsTested so text
-    tested part here has apart plain = record {
+    tested : (section : Section) → so.section ≡ section → has_forms section ≡ true → are_apart (forms_of section so.format) ≡ true → bytes_fault text ≡ None → IsTested so text
+    tested section here has apart plain = record {
       has = ap has_forms here ∙ has;
       bytes = (bytes-kept text plain).0;
       short = (bytes-kept text plain).1;
-      apart = subst (λ (p : Part). are_apart (forms_of p so.format) ≡ true) (sym here) apart;
+      apart = subst (λ (p : Section). are_apart (forms_of p so.format) ≡ true) (sym here) apart;
       not_start = λ e. let clash : false ≡ true = sym (ap has_forms (sym here ∙ e)) ∙ has in cc;
       not_whole = λ e. let clash : false ≡ true = sym (ap has_forms (sym here ∙ e)) ∙ has in cc;
     }
 
-    of-forms : (part : Part) → so.part ≡ part → has_forms part ≡ true → are_apart (forms_of part so.format) ≡ true → bytes_fault text ≡ None
-        → IsToldOf (Holds so text) (take_line number so (words text) (line_of (forms_of part so.format) (words text)))
-    of-forms part here has apart plain =
-        subst (λ (p : Part). IsToldOf (Holds so text) (take_line number so (words text) (line_of (forms_of p so.format) (words text)))) here
-        (forms-told number so text (tested part here has apart plain))
+    of-forms : (section : Section) → so.section ≡ section → has_forms section ≡ true → are_apart (forms_of section so.format) ≡ true → bytes_fault text ≡ None
+        → IsFirstOf (Holds so text) (take_line number so (words text) (line_of (forms_of section so.format) (words text)))
+    of-forms section here has apart plain =
+        subst (λ (p : Section). IsFirstOf (Holds so text) (take_line number so (words text) (line_of (forms_of p so.format) (words text)))) here
+        (forms-first number so text (tested section here has apart plain))
 
-    passed : (part : Part) → so.part ≡ part → list_all form_passes (forms_of part so.format) ≡ true → list_all form_passes (forms_of so.part so.format) ≡ true
-    passed part here all = subst (λ (p : Part). list_all form_passes (forms_of p so.format) ≡ true) (sym here) all
+    passed : (section : Section) → so.section ≡ section → list_all form_passes (forms_of section so.format) ≡ true → list_all form_passes (forms_of so.section so.format) ≡ true
+    passed section here all = subst (λ (p : Section). list_all form_passes (forms_of p so.format) ≡ true) (sym here) all
 
-    bytes : (part : Part) → so.part ≡ part → is_whole part ≡ false → list_all form_passes (forms_of part so.format) ≡ true → (taken : Result SoFar Reason)
-        → (bytes_fault text ≡ None → IsToldOf (Holds so text) taken) → (o : Option Reason) → bytes_fault text ≡ o
-        → IsToldOf (Holds so text) (elim o [ Some reason ↦ Err reason | None ↦ taken ])
-    bytes part here before passes taken told (Some reason) e =
-        bytes-first so text (λ w. let clash : true ≡ false = sym (ap is_whole (sym here ∙ w)) ∙ before in cc) (ap is_whole here ∙ before) (passed part here passes) reason e
-    bytes part here before passes taken told None e = told e
+    bytes : (section : Section) → so.section ≡ section → is_whole section ≡ false → list_all form_passes (forms_of section so.format) ≡ true → (taken : Result SoFar Reason)
+        → (bytes_fault text ≡ None → IsFirstOf (Holds so text) taken) → (o : Option Reason) → bytes_fault text ≡ o
+        → IsFirstOf (Holds so text) (elim o [ Some reason ↦ Err reason | None ↦ taken ])
+    bytes section here before passes taken answered (Some reason) e =
+        bytes-first so text (λ w. let clash : true ≡ false = sym (ap is_whole (sym here ∙ w)) ∙ before in cc) (ap is_whole here ∙ before) (passed section here passes) reason e
+    bytes section here before passes taken answered None e = answered e
 
-    by : (part : Part) → so.part ≡ part → IsToldOf (Holds so text) (if is_whole part then (if is_report text then Ok so else Err AfterEnd)
-        else elim (bytes_fault text) [ Some reason ↦ Err reason | None ↦ take_words part number so (words text) ])
-    by Start here = bytes Start here refl refl (take_words Start number so (words text)) (λ plain. start-told so text here (bytes-kept text plain).0 (bytes-kept text plain).1) (bytes_fault text) refl
+    by : (section : Section) → so.section ≡ section → IsFirstOf (Holds so text) (if is_whole section then (if is_report text then Ok so else Err AfterEnd)
+        else elim (bytes_fault text) [ Some reason ↦ Err reason | None ↦ take_words section number so (words text) ])
+    by Start here = bytes Start here refl refl (take_words Start number so (words text)) (λ plain. start-first so text here (bytes-kept text plain).0 (bytes-kept text plain).1) (bytes_fault text) refl
     by Settings here =
         bytes Settings here refl (settings-pass so.format) (take_words Settings number so (words text)) (of-forms Settings here refl (settings-apart so.format)) (bytes_fault text) refl
     by Making here = bytes Making here refl choices-pass (take_words Making number so (words text)) (of-forms Making here refl choices-apart) (bytes_fault text) refl
-    by Whole here = whole-told so text here
+    by Whole here = whole-first so text here
 
 -- a step that is refused is refused for the first reason of a line that is not skipped
 pub refused-first : (number : ℕ) (so : SoFar) (text : List ℕ) (reason : Reason) → step number so text ≡ Err reason
@@ -455,14 +455,14 @@ pub refused-first : (number : ℕ) (so : SoFar) (text : List ℕ) (reason : Reas
 refused-first number so text reason e = by (is_skipped text) refl
   where
     by : (b : Bool) → is_skipped text ≡ b → (is_skipped text ≡ false) × IsFirst (Holds so text) reason
-    by false shown = (shown, subst (IsToldOf (Holds so text)) e (step-told number so text shown))
+    by false shown = (shown, subst (IsFirstOf (Holds so text)) e (step-first number so text shown))
     by true skipped = let taken : step number so text ≡ Ok so = rw skipped refl in let clash : Ok so ≡ Err reason = sym taken ∙ e in absurd (cc)
 
 -- and one for which a reason is the first is refused for it
 pub first-refused : (number : ℕ) (so : SoFar) (text : List ℕ) (reason : Reason) → is_skipped text ≡ false → IsFirst (Holds so text) reason
     → step number so text ≡ Err reason
-first-refused number so text reason shown first = by (step number so text) refl (step-told number so text shown)
+first-refused number so text reason shown first = by (step number so text) refl (step-first number so text shown)
   where
-    by : (r : Result SoFar Reason) → step number so text ≡ r → IsToldOf (Holds so text) r → step number so text ≡ Err reason
+    by : (r : Result SoFar Reason) → step number so text ≡ r → IsFirstOf (Holds so text) r → step number so text ≡ Err reason
     by (Ok next) e none = absurd (none reason first.holds)
-    by (Err other) e told = e ∙ ap (λ (x : Reason). Err x) (one-first (Holds so text) other reason told first)
+    by (Err other) e answered = e ∙ ap (λ (x : Reason). Err x) (one-first (Holds so text) other reason answered first)

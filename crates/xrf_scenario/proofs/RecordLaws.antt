@@ -5,13 +5,13 @@ use Rattle.std.proofs.lemmas.List.{length-replicate, length-append, set-append_r
 use Rattle.xrf_text.specs.Text.{words}
 use Rattle.xrf_grammar.specs.LineText.{line_text}
 use Rattle.xrf_grammar.specs.declared.line.Line.TheVariants.{Record}
-use Rattle.xrf_scenario.specs.Canonical.{records_said}
+use Rattle.xrf_scenario.specs.Canonical.{record_lines}
 use Rattle.xrf_scenario.specs.Reading.{SaysAll}
 use Rattle.xrf_setup.specs.Scenario.{AreRecords}
 use Rattle.xrf_scenario.specs.Settled.{by_number}
 use Rattle.xrf_scenario.specs.SoFar.{SoFar}
 use Rattle.xrf_scenario.specs.Taking.{take, free_record}
-use Rattle.xrf_scenario.specs.declared.given.Part.TheVariants as part
+use Rattle.xrf_scenario.specs.declared.section.Section.TheVariants as section
 use Rattle.xrf_scenario.proofs.StepLaws.{setting-written}
 
 -- some places, and behind them as many empty ones
@@ -97,7 +97,7 @@ with_places so places = record so { records = places }
 pub record AreSaid (count : ℕ) (so : SoFar) (file : ℕ) (before : List (Option (List ℕ))) (left : ℕ) (records : List (ℕ × List ℕ)) : Type 0 where
   pub front : List (Option (List ℕ))
   pub empty : ℕ
-  pub says : SaysAll count (with_places so (places before left)) (records_said records) (with_places so (places front empty))
+  pub says : SaysAll count (with_places so (places before left)) (record_lines records) (with_places so (places front empty))
   pub numbers : by_number 1 front ≡ by_number 1 before ++ records
   pub within : length front ≤ file
 
@@ -113,11 +113,11 @@ record-taken number so ws front left gap more n value room at =
     ∙ ap (λ (l : List (Option (List ℕ))). Ok (with_places so l)) (places-set front gap more value)
 
 -- the lines of records behind a front say these
-records-on : (count : ℕ) (so : SoFar) (file : ℕ) (before : List (Option (List ℕ))) (left : ℕ) (records : List (ℕ × List ℕ)) → so.part ≡ part.Settings
+records-on : (count : ℕ) (so : SoFar) (file : ℕ) (before : List (Option (List ℕ))) (left : ℕ) (records : List (ℕ × List ℕ)) → so.section ≡ section.Settings
     → file ≤ 256 → file ≤ length before + left → length before ≤ file → AreRecords (length before + 1) file records → AreSaid count so file before left records
-records-on count so file before left [] part most room within are =
+records-on count so file before left [] section most room within are =
     record { front = before; empty = left; says = refl; numbers = sym (append-nil (by_number 1 before)); within = within }
-records-on count so file before left (r ∷ rs) part most room within are =
+records-on count so file before left (r ∷ rs) section most room within are =
     let low : length before + 1 ≤ r.0 = are.0.0 in
     let high : r.0 ≤ file = are.0.1 in
     let gap : ℕ = r.0 - 1 - length before in
@@ -128,7 +128,7 @@ records-on count so file before left (r ∷ rs) part most room within are =
     let reach : length front ≡ r.0 = length-with_record before gap r.1 ∙ sym at in
     let room' : file ≤ length front + more = omega (arith, reach, at, taken, room) in
     let within' : length front ≤ file = omega (arith, reach, high) in
-    let rest = records-on (count + 1) so file front more rs part most room' within' (subst (λ (n : ℕ). AreRecords (n + 1) file rs) (sym reach) are.2) in
+    let rest = records-on (count + 1) so file front more rs section most room' within' (subst (λ (n : ℕ). AreRecords (n + 1) file rs) (sym reach) are.2) in
     let least : 1 ≤ r.0 = omega (arith, low) in
     let few : r.0 ≤ 256 = omega (arith, high, most) in
     record {
@@ -137,7 +137,7 @@ records-on count so file before left (r ∷ rs) part most room within are =
       says = (
         with_places so (places front more),
         (
-          setting-written (count + 1) (with_places so (places before left)) (Record r.0 r.1) (with_places so (places front more)) part ((least, few), are.1)
+          setting-written (count + 1) (with_places so (places before left)) (Record r.0 r.1) (with_places so (places front more)) section ((least, few), are.1)
               (record-taken (count + 1) so (words (line_text (Record r.0 r.1))) before left gap more r.0 r.1 taken at),
           rest.says,
         ),
@@ -162,16 +162,16 @@ behind-empty (suc file) (place ∷ front) empty within = behind-empty file front
 -- what the lines of all records say: places that have these records, and none above FILE
 pub record AreAllSaid (count : ℕ) (so : SoFar) (file : ℕ) (records : List (ℕ × List ℕ)) : Type 0 where
   pub last : List (Option (List ℕ))
-  pub says : SaysAll count (with_places so (replicate 256 None)) (records_said records) (with_places so last)
+  pub says : SaysAll count (with_places so (replicate 256 None)) (record_lines records) (with_places so last)
   pub numbers : by_number 1 last ≡ records
   pub within : list_all is_none (drop file last) ≡ true
 
 -- What is written of records says these.
-pub records-say : (count : ℕ) (so : SoFar) (file : ℕ) (records : List (ℕ × List ℕ)) → so.part ≡ part.Settings → file ≤ 256 → AreRecords 1 file records
+pub records-say : (count : ℕ) (so : SoFar) (file : ℕ) (records : List (ℕ × List ℕ)) → so.section ≡ section.Settings → file ≤ 256 → AreRecords 1 file records
     → AreAllSaid count so file records
-records-say count so file records part most are =
+records-say count so file records section most are =
     let low : 0 ≤ file = omega arith in
-    let all = records-on count so file [] 256 records part most most low are in
+    let all = records-on count so file [] 256 records section most most low are in
     record {
       last = places all.front all.empty;
       says = all.says;

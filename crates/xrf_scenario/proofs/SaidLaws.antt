@@ -31,10 +31,10 @@ use Rattle.xrf_setup.specs.Commands.{IsKept}
 use Rattle.xrf_setup.specs.Settings.{AreSettings, AreLevels}
 use Rattle.xrf_scenario.specs.Settled.{by_number, scenario_of, settled}
 use Rattle.xrf_scenario.specs.SoFar.{SoFar, nothing_given, nothing_said, is_whole, file_said}
-use Rattle.xrf_scenario.specs.Taking.{once, with_room, free_record, last_tick, numbered, are_within, take_setting, take}
+use Rattle.xrf_scenario.specs.Taking.{once, with_room, free_record, last_tick, numbered, are_within, has_choice_room, take_setting, take}
 use Rattle.xrf_scenario.specs.declared.given.Given.{Given}
-use Rattle.xrf_scenario.specs.declared.given.Part.{Part}
-use Rattle.xrf_scenario.specs.declared.given.Part.TheVariants.{Start, Settings, Making, Whole}
+use Rattle.xrf_scenario.specs.declared.section.Section.{Section}
+use Rattle.xrf_scenario.specs.declared.section.Section.TheVariants.{Start, Settings, Making, Whole}
 use Rattle.xrf_scenario.specs.declared.numbered.Numbered.{Numbered}
 use Rattle.xrf_scenario.proofs.KeptLaws.{clt-fault, clt-kept}
 use Rattle.xrf_scenario.proofs.ReadingLaws.{step-says}
@@ -59,9 +59,9 @@ line-said format ws (Work site i) is = is
 line-said format ws (Plan tick c) is = is
 line-said format ws Choices is = is
 line-said format ws Clt is = absurd is
-line-said format ws (Once c) is = absurd is
-line-said format ws (Times c count) is = absurd is
-line-said format ws End is = absurd is
+line-said format ws (Once c) is = is
+line-said format ws (Times c count) is = is
+line-said format ws End is = is
 
 pub setting-said : (format : Format) (line : List ℕ) (l : Line) → bytes_fault line ≡ None → line_of (settings_of format) (words line) ≡ Ok l → IsLineSaid format (words line) l
 setting-said format line l plain h = by (setting_found format (words line) l h)
@@ -71,16 +71,6 @@ setting-said format line l plain h = by (setting_found format (words line) l h)
         let clt : line_of (settings_of format) (words line) ≡ Ok Clt = h ∙ ap (λ (k : Line). Ok k) same in
         subst (IsLineSaid format (words line)) (sym same) (clt-fault format (words line) clt, clt-kept format line plain clt)
     by (inr is) = line-said format (words line) l is
-
--- what is known of a line of the choices
-chosen-said : (format : Format) (ws : List (List ℕ)) (l : Line) → IsChoosing l → IsLineSaid format ws l
-chosen-said format ws (Once c) is = is
-chosen-said format ws (Times c count) is = is
-chosen-said format ws End is = is
-chosen-said format ws l is = absurd is
-
-pub choice-said : (format : Format) (line : List ℕ) (l : Line) → line_of choices_table (words line) ≡ Ok l → IsLineSaid format (words line) l
-choice-said format line l h = chosen-said format (words line) l (choosing_found (words line) l h)
 
 empty-places : (n : ℕ) → AllByRecursion (λ (place : Option (List ℕ)). IfSome place IsValue) (replicate n None)
 empty-places zero = tt
@@ -118,14 +108,14 @@ pub free-is : (b : Bool) (so next : SoFar) → free_record b so ≡ Ok next → 
 free-is true so next h = cc
 free-is false so next h = absurd (cc)
 
--- in the scenario's part nothing is past CHOICES
-not-past : {X : Type 0} (part : Part) → part ≡ Settings → is_past part ≡ true → X
-not-past part here past = let clash : is_past Settings ≡ true = subst (λ (p : Part). is_past p ≡ true) here past in absurd (cc)
+-- in the scenario's section nothing is past CHOICES
+not-past : {X : Type 0} (section : Section) → section ≡ Settings → is_past section ≡ true → X
+not-past section here past = let clash : is_past Settings ≡ true = subst (λ (p : Section). is_past p ≡ true) here past in absurd (cc)
 
-not-fresh : (so next : SoFar) → so.part ≡ Settings → IsFresh so.part next
-not-fresh so next here = subst (λ (p : Part). IsFresh p next) (sym here) tt
+not-fresh : (so next : SoFar) → so.section ≡ Settings → IsFresh so.section next
+not-fresh so next here = subst (λ (p : Section). IsFresh p next) (sym here) tt
 
-given-said : (so : SoFar) (g : Given) → so.part ≡ Settings → IsSaid so → IsGiven so.format g → IsSaid (record so { given = g })
+given-said : (so : SoFar) (g : Given) → so.section ≡ Settings → IsSaid so → IsGiven so.format g → IsSaid (record so { given = g })
 given-said so g here said is = record {
   fresh = not-fresh so (record so { given = g }) here;
   given = is;
@@ -141,11 +131,11 @@ given-said so g here said is = record {
   plan_few = said.plan_few;
   choices = said.choices;
   choices_few = said.choices_few;
-  within = not-past so.part here;
+  within = not-past so.section here;
 }
 
 -- each setting is kept within its range
-setting-taken : (so next : SoFar) (l : Line) → so.part ≡ Settings → IsSaid so → IsSetting so.format l → take_setting so so.given l ≡ Ok next → IsSaid next
+setting-taken : (so next : SoFar) (l : Line) → so.section ≡ Settings → IsSaid so → IsSetting so.format l → take_setting so so.given l ≡ Ok next → IsSaid next
 setting-taken so next (Applid A name) here said is h = subst IsSaid (once-is so.given.applid_a so next (record so.given { applid_a = Some name }) h) (given-said so (record so.given { applid_a = Some name }) here said (record { applid_a = is; applid_b = said.given.applid_b; adi = said.given.adi; pdi = said.given.pdi; log = said.given.log; ring = said.given.ring; file = said.given.file; pace = said.given.pace; ticks = said.given.ticks; level_a = said.given.level_a; level_b = said.given.level_b; force = said.given.force }))
 setting-taken so next (Applid B name) here said is h = subst IsSaid (once-is so.given.applid_b so next (record so.given { applid_b = Some name }) h) (given-said so (record so.given { applid_b = Some name }) here said (record { applid_a = said.given.applid_a; applid_b = is; adi = said.given.adi; pdi = said.given.pdi; log = said.given.log; ring = said.given.ring; file = said.given.file; pace = said.given.pace; ticks = said.given.ticks; level_a = said.given.level_a; level_b = said.given.level_b; force = said.given.force }))
 setting-taken so next (Adi n) here said is h = subst IsSaid (once-is so.given.adi so next (record so.given { adi = Some n }) h) (given-said so (record so.given { adi = Some n }) here said (record { applid_a = said.given.applid_a; applid_b = said.given.applid_b; adi = is; pdi = said.given.pdi; log = said.given.log; ring = said.given.ring; file = said.given.file; pace = said.given.pace; ticks = said.given.ticks; level_a = said.given.level_a; level_b = said.given.level_b; force = said.given.force }))
@@ -191,30 +181,30 @@ planned-more least (p ∷ next ∷ more) tick c are low last few takes has =
     (are.0, are.1, are.2, planned-more p.0 (next ∷ more) tick c are.3 (λ (e : next ∷ more ≡ []). absurd (cc)) last few takes has)
 
 -- what a line of the scenario adds is kept within its bounds
-clt-taken : (number : ℕ) (so next : SoFar) (ws : List (List ℕ)) → so.part ≡ Settings → IsSaid so → IsKept (words_kept (behind ws)) → take number so ws Clt ≡ Ok next → IsSaid next
+pub clt-taken : (number : ℕ) (so next : SoFar) (ws : List (List ℕ)) → so.section ≡ Settings → IsSaid so → IsKept (words_kept (behind ws)) → take number so ws Clt ≡ Ok next → IsSaid next
 clt-taken number so next ws here said is h =
     let more : SoFar = record so { clt = so.clt ++ words_kept (behind ws) ∷ [] } in
     let room = room-is (nat_lt (length so.clt) 100) more next h in
     let few : length so.clt < 100 = ltb-true (length so.clt) 100 room.0 in
     let longer : length (so.clt ++ words_kept (behind ws) ∷ []) ≡ length so.clt + 1 = length-append so.clt ((words_kept (behind ws)) ∷ []) in
-    subst IsSaid room.1 (record { fresh = not-fresh so more here; given = said.given; places = said.places; values = said.values; clt = all-more IsKept so.clt (words_kept (behind ws)) said.clt is; clt_few = omega (arith, longer, few); work_a = said.work_a; work_a_few = said.work_a_few; work_b = said.work_b; work_b_few = said.work_b_few; plan = said.plan; plan_few = said.plan_few; choices = said.choices; choices_few = said.choices_few; within = not-past so.part here })
+    subst IsSaid room.1 (record { fresh = not-fresh so more here; given = said.given; places = said.places; values = said.values; clt = all-more IsKept so.clt (words_kept (behind ws)) said.clt is; clt_few = omega (arith, longer, few); work_a = said.work_a; work_a_few = said.work_a_few; work_b = said.work_b; work_b_few = said.work_b_few; plan = said.plan; plan_few = said.plan_few; choices = said.choices; choices_few = said.choices_few; within = not-past so.section here })
 
-line-taken : (number : ℕ) (so next : SoFar) (ws : List (List ℕ)) (l : Line) → so.part ≡ Settings → IsSaid so → IsSetting so.format l → take number so ws l ≡ Ok next → IsSaid next
+pub line-taken : (number : ℕ) (so next : SoFar) (ws : List (List ℕ)) (l : Line) → so.section ≡ Settings → IsSaid so → IsSetting so.format l → take number so ws l ≡ Ok next → IsSaid next
 line-taken number so next ws (Record n value) here said is h =
     let more : SoFar = record so { records = slice_set so.records (n - 1) (Some value) } in
-    subst IsSaid (free-is (is_none (get_or so.records (n - 1) None)) more next h) (record { fresh = not-fresh so more here; given = said.given; places = length-set so.records (n - 1) (Some value) ∙ said.places; values = all-set (λ (place : Option (List ℕ)). IfSome place IsValue) so.records (n - 1) (Some value) said.values is.1; clt = said.clt; clt_few = said.clt_few; work_a = said.work_a; work_a_few = said.work_a_few; work_b = said.work_b; work_b_few = said.work_b_few; plan = said.plan; plan_few = said.plan_few; choices = said.choices; choices_few = said.choices_few; within = not-past so.part here })
+    subst IsSaid (free-is (is_none (get_or so.records (n - 1) None)) more next h) (record { fresh = not-fresh so more here; given = said.given; places = length-set so.records (n - 1) (Some value) ∙ said.places; values = all-set (λ (place : Option (List ℕ)). IfSome place IsValue) so.records (n - 1) (Some value) said.values is.1; clt = said.clt; clt_few = said.clt_few; work_a = said.work_a; work_a_few = said.work_a_few; work_b = said.work_b; work_b_few = said.work_b_few; plan = said.plan; plan_few = said.plan_few; choices = said.choices; choices_few = said.choices_few; within = not-past so.section here })
 line-taken number so next ws (Work A i) here said is h =
     let more : SoFar = record so { work_a = so.work_a ++ i ∷ [] } in
     let room = room-is (nat_lt (length so.work_a) 2000) more next h in
     let few : length so.work_a < 2000 = ltb-true (length so.work_a) 2000 room.0 in
     let longer : length (so.work_a ++ i ∷ []) ≡ length so.work_a + 1 = length-append so.work_a (i ∷ []) in
-    subst IsSaid room.1 (record { fresh = not-fresh so more here; given = said.given; places = said.places; values = said.values; clt = said.clt; clt_few = said.clt_few; work_a = all-more (IsItemOf so.format) so.work_a i said.work_a is; work_a_few = omega (arith, longer, few); work_b = said.work_b; work_b_few = said.work_b_few; plan = said.plan; plan_few = said.plan_few; choices = said.choices; choices_few = said.choices_few; within = not-past so.part here })
+    subst IsSaid room.1 (record { fresh = not-fresh so more here; given = said.given; places = said.places; values = said.values; clt = said.clt; clt_few = said.clt_few; work_a = all-more (IsItemOf so.format) so.work_a i said.work_a is; work_a_few = omega (arith, longer, few); work_b = said.work_b; work_b_few = said.work_b_few; plan = said.plan; plan_few = said.plan_few; choices = said.choices; choices_few = said.choices_few; within = not-past so.section here })
 line-taken number so next ws (Work B i) here said is h =
     let more : SoFar = record so { work_b = so.work_b ++ i ∷ [] } in
     let room = room-is (nat_lt (length so.work_b) 2000) more next h in
     let few : length so.work_b < 2000 = ltb-true (length so.work_b) 2000 room.0 in
     let longer : length (so.work_b ++ i ∷ []) ≡ length so.work_b + 1 = length-append so.work_b (i ∷ []) in
-    subst IsSaid room.1 (record { fresh = not-fresh so more here; given = said.given; places = said.places; values = said.values; clt = said.clt; clt_few = said.clt_few; work_a = said.work_a; work_a_few = said.work_a_few; work_b = all-more (IsItemOf so.format) so.work_b i said.work_b is; work_b_few = omega (arith, longer, few); plan = said.plan; plan_few = said.plan_few; choices = said.choices; choices_few = said.choices_few; within = not-past so.part here })
+    subst IsSaid room.1 (record { fresh = not-fresh so more here; given = said.given; places = said.places; values = said.values; clt = said.clt; clt_few = said.clt_few; work_a = said.work_a; work_a_few = said.work_a_few; work_b = all-more (IsItemOf so.format) so.work_b i said.work_b is; work_b_few = omega (arith, longer, few); plan = said.plan; plan_few = said.plan_few; choices = said.choices; choices_few = said.choices_few; within = not-past so.section here })
 line-taken number so next ws (Plan tick c) here said is h = by (nat_lt tick (last_tick so.plan)) refl h
   where
     more : SoFar
@@ -227,12 +217,12 @@ line-taken number so next ws (Plan tick c) here said is h = by (nat_lt tick (las
         let few : length so.plan < 500 = ltb-true (length so.plan) 500 room.0 in
         let low : last_tick so.plan ≤ tick = omega (arith, ltb-false tick (last_tick so.plan) e) in
         let longer : length (so.plan ++ (tick, c) ∷ []) ≡ length so.plan + 1 = length-append so.plan ((tick, c) ∷ []) in
-        subst IsSaid room.1 (record { fresh = not-fresh so more here; given = said.given; places = said.places; values = said.values; clt = said.clt; clt_few = said.clt_few; work_a = said.work_a; work_a_few = said.work_a_few; work_b = said.work_b; work_b_few = said.work_b_few; plan = planned-more 0 so.plan tick c said.plan (λ e0. omega arith) low is.0.1 is.1 is.2; plan_few = omega (arith, longer, few); choices = said.choices; choices_few = said.choices_few; within = not-past so.part here })
+        subst IsSaid room.1 (record { fresh = not-fresh so more here; given = said.given; places = said.places; values = said.values; clt = said.clt; clt_few = said.clt_few; work_a = said.work_a; work_a_few = said.work_a_few; work_b = said.work_b; work_b_few = said.work_b_few; plan = planned-more 0 so.plan tick c said.plan (λ e0. omega arith) low is.0.1 is.1 is.2; plan_few = omega (arith, longer, few); choices = said.choices; choices_few = said.choices_few; within = not-past so.section here })
 line-taken number so next ws Choices here said is h = by (are_within so) refl h
   where
-    by : (b : Bool) → are_within so ≡ b → ◌≡◌ {A = Result SoFar Reason} (if b then Ok (record so { part = Making }) else Err RrnRange) (Ok next) → IsSaid next
+    by : (b : Bool) → are_within so ≡ b → ◌≡◌ {A = Result SoFar Reason} (if b then Ok (record so { section = Making }) else Err RrnRange) (Ok next) → IsSaid next
     by true e k =
-        let same : record so { part = Making } ≡ next = cc in
+        let same : record so { section = Making } ≡ next = cc in
         subst IsSaid same (record { fresh = tt; given = said.given; places = said.places; values = said.values; clt = said.clt; clt_few = said.clt_few; work_a = said.work_a; work_a_few = said.work_a_few; work_b = said.work_b; work_b_few = said.work_b_few; plan = said.plan; plan_few = said.plan_few; choices = said.choices; choices_few = said.choices_few; within = λ past. e })
     by false e k = absurd (cc)
 line-taken number so next ws Clt here said is h = absurd is
@@ -261,34 +251,33 @@ timed-line (choice.Step site) is = tt
 timed-line c is = absurd (cc)
 
 -- what a line of the choices adds
-not-start : (so next : SoFar) → so.part ≡ Making → IsFresh so.part next
-not-start so next here = subst (λ (p : Part). IsFresh p next) (sym here) tt
+not-start : (so next : SoFar) → so.section ≡ Making → IsFresh so.section next
+not-start so next here = subst (λ (p : Section). IsFresh p next) (sym here) tt
 
-within-past : (so : SoFar) → so.part ≡ Making → IsSaid so → are_within so ≡ true
+within-past : (so : SoFar) → so.section ≡ Making → IsSaid so → are_within so ≡ true
 within-past so here said = said.within (ap is_past here)
 
-choice-taken : (number : ℕ) (so next : SoFar) (ws : List (List ℕ)) (l : Line) → so.part ≡ Making → IsSaid so → IsChoosing l → take number so ws l ≡ Ok next → IsSaid next
-choice-taken number so next ws (Once c) here said is h =
-    let more : SoFar = record so { choices = so.choices ++ numbered number c ∷ [] } in
-    let room = room-is (nat_le (length so.choices + 1) 8192) more next h in
-    let few : length so.choices + 1 ≤ 8192 = leb-true (length so.choices + 1) 8192 room.0 in
-    let longer : length (so.choices ++ numbered number c ∷ []) ≡ length so.choices + 1 = length-append so.choices ((numbered number c) ∷ []) in
-    subst IsSaid room.1 (record { fresh = not-start so more here; given = said.given; places = said.places; values = said.values; clt = said.clt; clt_few = said.clt_few; work_a = said.work_a; work_a_few = said.work_a_few; work_b = said.work_b; work_b_few = said.work_b_few; plan = said.plan; plan_few = said.plan_few; choices = all-more (λ (k : Numbered). HasLine k.choice) so.choices (numbered number c) said.choices is; choices_few = omega (arith, longer, few); within = λ past. within-past so here said })
-choice-taken number so next ws (Times c count) here said is h =
+pub choices-taken : (number : ℕ) (so next : SoFar) (c : Choice) (count : ℕ) → so.section ≡ Making → IsSaid so → HasLine c
+    → with_room (has_choice_room so count) (record so { choices = so.choices ++ replicate count (numbered number c) }) ≡ Ok next → IsSaid next
+choices-taken number so next c count here said is h =
     let more : SoFar = record so { choices = so.choices ++ replicate count (numbered number c) } in
     let room = room-is (nat_le (length so.choices + count) 8192) more next h in
     let few : length so.choices + count ≤ 8192 = leb-true (length so.choices + count) 8192 room.0 in
     let longer : length (so.choices ++ replicate count (numbered number c)) ≡ length so.choices + count = times-longer so.choices (numbered number c) count in
-    subst IsSaid room.1 (record { fresh = not-start so more here; given = said.given; places = said.places; values = said.values; clt = said.clt; clt_few = said.clt_few; work_a = said.work_a; work_a_few = said.work_a_few; work_b = said.work_b; work_b_few = said.work_b_few; plan = said.plan; plan_few = said.plan_few; choices = all-times (λ (k : Numbered). HasLine k.choice) so.choices (numbered number c) count said.choices (timed-line c is.0); choices_few = omega (arith, longer, few); within = λ past. within-past so here said })
+    subst IsSaid room.1 (record { fresh = not-start so more here; given = said.given; places = said.places; values = said.values; clt = said.clt; clt_few = said.clt_few; work_a = said.work_a; work_a_few = said.work_a_few; work_b = said.work_b; work_b_few = said.work_b_few; plan = said.plan; plan_few = said.plan_few; choices = all-times (λ (k : Numbered). HasLine k.choice) so.choices (numbered number c) count said.choices is; choices_few = omega (arith, longer, few); within = λ past. within-past so here said })
+
+choice-taken : (number : ℕ) (so next : SoFar) (ws : List (List ℕ)) (l : Line) → so.section ≡ Making → IsSaid so → IsChoosing l → take number so ws l ≡ Ok next → IsSaid next
+choice-taken number so next ws (Once c) here said is h = choices-taken number so next c 1 here said is h
+choice-taken number so next ws (Times c count) here said is h = choices-taken number so next c count here said (timed-line c is.0) h
 choice-taken number so next ws End here said is h =
-    let same : record so { part = Whole } ≡ next = cc in
+    let same : record so { section = Whole } ≡ next = cc in
     subst IsSaid same (record { fresh = tt; given = said.given; places = said.places; values = said.values; clt = said.clt; clt_few = said.clt_few; work_a = said.work_a; work_a_few = said.work_a_few; work_b = said.work_b; work_b_few = said.work_b_few; plan = said.plan; plan_few = said.plan_few; choices = said.choices; choices_few = said.choices_few; within = λ past. within-past so here said })
 choice-taken number so next ws l here said is h = absurd is
 
 -- the header of a text of which nothing is said
-header-taken : (so : SoFar) (format : Format) → so.part ≡ Start → IsSaid so → IsSaid (begun so format)
+header-taken : (so : SoFar) (format : Format) → so.section ≡ Start → IsSaid so → IsSaid (begun so format)
 header-taken so format here said =
-    let fresh : IsFresh Start so = subst (λ (p : Part). IsFresh p so) here said.fresh in
+    let fresh : IsFresh Start so = subst (λ (p : Section). IsFresh p so) here said.fresh in
     record {
       fresh = tt;
       given = subst (IsGiven format) (sym fresh.0) nothing-given;
@@ -312,11 +301,11 @@ header-taken so format here said =
 
 -- each step keeps what is said within its bounds
 pub step-said : (number : ℕ) (so next : SoFar) (line : List ℕ) → IsSaid so → step number so line ≡ Ok next → IsSaid next
-step-said number so next line said h = by (is_skipped line) (is_whole so.part) (step-says number so next line h)
+step-said number so next line said h = by (is_skipped line) (is_whole so.section) (step-says number so next line h)
   where
-    in-part : (part : Part) → so.part ≡ part → bytes_fault line ≡ None → SaysIn part number so (words line) next → IsSaid next
-    in-part Start here plain says = subst IsSaid (sym says.1.1) (header-taken so says.0 here said)
-    in-part Settings here plain says = found (setting_found so.format (words line) says.0 read)
+    in-section : (section : Section) → so.section ≡ section → bytes_fault line ≡ None → SaysIn section number so (words line) next → IsSaid next
+    in-section Start here plain says = subst IsSaid (sym says.1.1) (header-taken so says.0 here said)
+    in-section Settings here plain says = found (setting_found so.format (words line) says.0 read)
       where
         read : line_of (settings_of so.format) (words line) ≡ Ok says.0
         read = line-again (settings_of so.format) (words line) says.0 (settings-apart so.format) says.1.0
@@ -326,14 +315,14 @@ step-said number so next line said h = by (is_skipped line) (is_whole so.part) (
             let clt : line_of (settings_of so.format) (words line) ≡ Ok Clt = read ∙ ap (λ (k : Line). Ok k) same in
             clt-taken number so next (words line) here said (clt-kept so.format line plain clt) (ap (take number so (words line)) (sym same) ∙ says.1.1)
         found (inr is) = line-taken number so next (words line) says.0 here said is says.1.1
-    in-part Making here plain says =
+    in-section Making here plain says =
         choice-taken number so next (words line) says.0 here said (choosing_found (words line) says.0 (line-again choices_table (words line) says.0 choices-apart says.1.0)) says.1.1
-    in-part Whole here plain says = absurd says
+    in-section Whole here plain says = absurd says
 
     by : (skipped ended : Bool) → SaysThen skipped ended number so line next → IsSaid next
     by true ended same = subst IsSaid (sym same) said
     by false true says = subst IsSaid (sym says.1) said
-    by false false says = in-part so.part refl says.0 says.1
+    by false false says = in-section so.section refl says.0 says.1
 
 -- a setting that is given is within its range, and so is its default
 given-or : {X : Type 0} (P : X → Type 0) (o : Option X) (default : X) → IfSome o P → P default → P (unwrap_or o default)
@@ -388,10 +377,10 @@ records-said (suc room) number most (Some value ∷ places) sum values all =
     ((omega arith, omega (arith, sum)), values.0, records-said room (number + 1) most places (omega (arith, sum)) values.1 all)
 
 -- what is said to the end is a scenario
-pub scen-said : (so : SoFar) → IsSaid so → is_whole so.part ≡ true → IsScen (scenario_of so)
+pub scen-said : (so : SoFar) → IsSaid so → is_whole so.section ≡ true → IsScen (scenario_of so)
 scen-said so said whole = record {
   settings = settings-said so.format so.given said.given;
-  records = records-said (file_said so) 1 (file_said so) so.records (omega arith) said.values (said.within (past so.part whole));
+  records = records-said (file_said so) 1 (file_said so) so.records (omega arith) said.values (said.within (past so.section whole));
   clt = said.clt;
   clt_few = said.clt_few;
   work_a = said.work_a;
@@ -402,7 +391,7 @@ scen-said so said whole = record {
   plan_few = said.plan_few;
 }
   where
-    past : (part : Part) → is_whole part ≡ true → is_past part ≡ true
+    past : (section : Section) → is_whole section ≡ true → is_past section ≡ true
     past Whole e = refl
     past Start e = absurd (cc)
     past Settings e = absurd (cc)

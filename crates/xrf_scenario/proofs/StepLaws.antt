@@ -20,8 +20,8 @@ use Rattle.xrf_text.specs.Text.{is_printable}
 use Rattle.xrf_scenario.specs.Reading.{begun, SaysIn, SaysThen, Says, SaysAll}
 use Rattle.xrf_scenario.specs.SoFar.{SoFar, is_whole}
 use Rattle.xrf_scenario.specs.Taking.{take}
-use Rattle.xrf_scenario.specs.declared.given.Part.{Part}
-use Rattle.xrf_scenario.specs.declared.given.Part.TheVariants.{Start, Settings, Making}
+use Rattle.xrf_scenario.specs.declared.section.Section.{Section}
+use Rattle.xrf_scenario.specs.declared.section.Section.TheVariants.{Start, Settings, Making}
 use Rattle.xrf_scenario.proofs.TextLaws.{IsClean, other}
 
 -- what holds of each element by one fact holds by another that follows
@@ -59,43 +59,43 @@ plain-not_skipped line plain =
     subst (λ (l : List ℕ). is_skipped l ≡ false) (sym plain.starts) (ap (λ (t : Bool). t || are_none (words (plain.first ∷ plain.rest))) unmarked ∙ has-word plain.first plain.rest filled)
 
 -- a plain line says what its words say
-pub plain-says : (number : ℕ) (so : SoFar) (line : List ℕ) (next : SoFar) → IsPlain line → is_whole so.part ≡ false
-    → SaysIn so.part number so (words line) next → Says number so line next
+pub plain-says : (number : ℕ) (so : SoFar) (line : List ℕ) (next : SoFar) → IsPlain line → is_whole so.section ≡ false
+    → SaysIn so.section number so (words line) next → Says number so line next
 plain-says number so line next plain early says =
-    subst (λ (t : Bool). SaysThen t (is_whole so.part) number so line next) (sym (plain-not_skipped line plain))
+    subst (λ (t : Bool). SaysThen t (is_whole so.section) number so line next) (sym (plain-not_skipped line plain))
     (subst (λ (t : Bool). SaysThen false t number so line next) (sym early) (plain-faultless line plain, says))
 
 -- a plain line before the choices says what its words spell
-pub setting-says : (number : ℕ) (so : SoFar) (text : List ℕ) (line : Line) (next : SoFar) → IsPlain text → so.part ≡ Settings
+pub setting-says : (number : ℕ) (so : SoFar) (text : List ℕ) (line : Line) (next : SoFar) → IsPlain text → so.section ≡ Settings
     → Spells (settings_of so.format) (words text) line → take number so (words text) line ≡ Ok next → Says number so text next
-setting-says number so text line next plain part spells takes =
-    plain-says number so text next plain (ap is_whole part) (subst (λ (p : Part). SaysIn p number so (words text) next) (sym part) (line, (spells, takes)))
+setting-says number so text line next plain section spells takes =
+    plain-says number so text next plain (ap is_whole section) (subst (λ (p : Section). SaysIn p number so (words text) next) (sym section) (line, (spells, takes)))
 
 -- so does one of the choices
-pub choosing-says : (number : ℕ) (so : SoFar) (text : List ℕ) (line : Line) (next : SoFar) → IsPlain text → so.part ≡ Making
+pub choosing-says : (number : ℕ) (so : SoFar) (text : List ℕ) (line : Line) (next : SoFar) → IsPlain text → so.section ≡ Making
     → Spells choices_table (words text) line → take number so (words text) line ≡ Ok next → Says number so text next
-choosing-says number so text line next plain part spells takes =
-    plain-says number so text next plain (ap is_whole part) (subst (λ (p : Part). SaysIn p number so (words text) next) (sym part) (line, (spells, takes)))
+choosing-says number so text line next plain section spells takes =
+    plain-says number so text next plain (ap is_whole section) (subst (λ (p : Section). SaysIn p number so (words text) next) (sym section) (line, (spells, takes)))
 
 -- what is written of the header says the format
-pub header-written : (number : ℕ) (so : SoFar) (format : Format) → so.part ≡ Start
+pub header-written : (number : ℕ) (so : SoFar) (format : Format) → so.section ≡ Start
     → Says number so (header_text format) (begun so format)
-header-written number so format part =
-    plain-says number so (header_text format) (begun so format) (header_plain format) (ap is_whole part)
-    (subst (λ (p : Part). SaysIn p number so (words (header_text format)) (begun so format)) (sym part) (format, (refl, refl)))
+header-written number so format section =
+    plain-says number so (header_text format) (begun so format) (header_plain format) (ap is_whole section)
+    (subst (λ (p : Section). SaysIn p number so (words (header_text format)) (begun so format)) (sym section) (format, (refl, refl)))
 
 -- what is written of a line before the choices says this line
-pub setting-written : (number : ℕ) (so : SoFar) (line : Line) (next : SoFar) → so.part ≡ Settings → IsSetting so.format line
+pub setting-written : (number : ℕ) (so : SoFar) (line : Line) (next : SoFar) → so.section ≡ Settings → IsSetting so.format line
     → take number so (words (line_text line)) line ≡ Ok next → Says number so (line_text line) next
-setting-written number so line next part is takes =
-    setting-says number so (line_text line) line next (setting_plain so.format line is) part
+setting-written number so line next section is takes =
+    setting-says number so (line_text line) line next (setting_plain so.format line is) section
     (line-found (settings_of so.format) (words (line_text line)) line (setting_again so.format line is)) takes
 
 -- so does what is written of one of the choices
-pub choosing-written : (number : ℕ) (so : SoFar) (line : Line) (next : SoFar) → so.part ≡ Making → IsChoosing line
+pub choosing-written : (number : ℕ) (so : SoFar) (line : Line) (next : SoFar) → so.section ≡ Making → IsChoosing line
     → take number so (words (line_text line)) line ≡ Ok next → Says number so (line_text line) next
-choosing-written number so line next part is takes =
-    choosing-says number so (line_text line) line next (choosing_plain line is) part
+choosing-written number so line next section is takes =
+    choosing-says number so (line_text line) line next (choosing_plain line is) section
     (line-found choices_table (words (line_text line)) line (choosing_again line is)) takes
 
 -- lines say what the first of them and then the others say
@@ -133,14 +133,14 @@ all-at P [] x rest all = all.0
 all-at P (y ∷ done) x rest all = all-at P done x rest all.1
 
 -- Behind END the lines of a report say nothing more.
-pub report-says : (count : ℕ) (so : SoFar) (ls : List (List ℕ)) → is_whole so.part ≡ true → AllByRecursion IsReportLine ls → SaysAll count so ls so
+pub report-says : (count : ℕ) (so : SoFar) (ls : List (List ℕ)) → is_whole so.section ≡ true → AllByRecursion IsReportLine ls → SaysAll count so ls so
 report-says count so [] whole all = refl
 report-says count so (line ∷ ls) whole all = (so, (by (is_skipped line), report-says (count + 1) so ls whole all.1))
   where
     marked : IsTrue (is_report line)
     marked = ap (begins_with 42) all.0.marked
 
-    by : (t : Bool) → SaysThen t (is_whole so.part) (count + 1) so line so
+    by : (t : Bool) → SaysThen t (is_whole so.section) (count + 1) so line so
     by true = refl
     by false = subst (λ (t : Bool). SaysThen false t (count + 1) so line so) (sym whole) (marked, refl)
 

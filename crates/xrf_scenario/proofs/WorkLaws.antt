@@ -11,12 +11,12 @@ use Rattle.xrf_grammar.specs.declared.reason.Reason.TheVariants.{PlanOrder}
 use Rattle.xrf_setup.specs.Items.{IsItemOf}
 use Rattle.xrf_setup.specs.Choices.{is_planned, HasLine}
 use Rattle.xrf_grammar.specs.LineText.{line_text}
-use Rattle.xrf_scenario.specs.Canonical.{plan_said}
+use Rattle.xrf_scenario.specs.Canonical.{plan_lines}
 use Rattle.xrf_scenario.specs.Reading.{Says, SaysAll}
 use Rattle.xrf_setup.specs.Scenario.{ArePlanned}
 use Rattle.xrf_scenario.specs.SoFar.{SoFar}
 use Rattle.xrf_scenario.specs.Taking.{take, with_room, last_tick}
-use Rattle.xrf_scenario.specs.declared.given.Part.TheVariants as part
+use Rattle.xrf_scenario.specs.declared.section.Section.TheVariants as section
 use Rattle.xrf_scenario.proofs.StepLaws.{setting-written, all-at, all-say}
 
 -- what stands before an element has fewer elements than the whole
@@ -36,29 +36,29 @@ abbrev pub with_plan : SoFar → List (ℕ × Choice) → SoFar
 with_plan so plan = record so { plan = plan }
 
 -- What is written of the work of A says its items.
-pub work_a-say : (count : ℕ) (so : SoFar) (items : List Item) → so.part ≡ part.Settings → AllByRecursion (IsItemOf so.format) items → length items ≤ 2000
+pub work_a-say : (count : ℕ) (so : SoFar) (items : List Item) → so.section ≡ section.Settings → AllByRecursion (IsItemOf so.format) items → length items ≤ 2000
     → SaysAll count (with_work_a so []) (map (λ (i : Item). line_text (Work A i)) items) (with_work_a so items)
-work_a-say count so items part are few = all-say count (λ (i : Item). line_text (Work A i)) (with_work_a so) items says
+work_a-say count so items section are few = all-say count (λ (i : Item). line_text (Work A i)) (with_work_a so) items says
   where
     says : (done : List Item) (i : Item) (rest : List Item) → items ≡ done ++ i ∷ rest
         → Says (count + length done + 1) (with_work_a so done) (line_text (Work A i)) (with_work_a so (done ++ i ∷ []))
     says done i rest split =
         let is : IsItemOf so.format i = all-at (IsItemOf so.format) done i rest (subst (AllByRecursion (IsItemOf so.format)) split are) in
         let fewer = before-fewer items done i rest split in
-        setting-written (count + length done + 1) (with_work_a so done) (Work A i) (with_work_a so (done ++ i ∷ [])) part is
+        setting-written (count + length done + 1) (with_work_a so done) (Work A i) (with_work_a so (done ++ i ∷ [])) section is
         (ap (λ (t : Bool). with_room t (with_work_a so (done ++ i ∷ []))) (lt-ltb (length done) 2000 (omega (arith, fewer, few))))
 
 -- What is written of the work of B says its items.
-pub work_b-say : (count : ℕ) (so : SoFar) (items : List Item) → so.part ≡ part.Settings → AllByRecursion (IsItemOf so.format) items → length items ≤ 2000
+pub work_b-say : (count : ℕ) (so : SoFar) (items : List Item) → so.section ≡ section.Settings → AllByRecursion (IsItemOf so.format) items → length items ≤ 2000
     → SaysAll count (with_work_b so []) (map (λ (i : Item). line_text (Work B i)) items) (with_work_b so items)
-work_b-say count so items part are few = all-say count (λ (i : Item). line_text (Work B i)) (with_work_b so) items says
+work_b-say count so items section are few = all-say count (λ (i : Item). line_text (Work B i)) (with_work_b so) items says
   where
     says : (done : List Item) (i : Item) (rest : List Item) → items ≡ done ++ i ∷ rest
         → Says (count + length done + 1) (with_work_b so done) (line_text (Work B i)) (with_work_b so (done ++ i ∷ []))
     says done i rest split =
         let is : IsItemOf so.format i = all-at (IsItemOf so.format) done i rest (subst (AllByRecursion (IsItemOf so.format)) split are) in
         let fewer = before-fewer items done i rest split in
-        setting-written (count + length done + 1) (with_work_b so done) (Work B i) (with_work_b so (done ++ i ∷ [])) part is
+        setting-written (count + length done + 1) (with_work_b so done) (Work B i) (with_work_b so (done ++ i ∷ [])) section is
         (ap (λ (t : Bool). with_room t (with_work_b so (done ++ i ∷ []))) (lt-ltb (length done) 2000 (omega (arith, fewer, few))))
 
 -- Of planned choices whose ticks do not fall each comes no earlier than the one before it.
@@ -76,14 +76,14 @@ plan-taken number so ws done p low room =
     ∙ ap (λ (t : Bool). with_room t (with_plan so (done ++ p ∷ []))) (lt-ltb (length done) 500 room)
 
 -- What is written of the plan says its choices.
-pub plan-say : (count : ℕ) (so : SoFar) (plan : List (ℕ × Choice)) → so.part ≡ part.Settings → ArePlanned 0 plan → length plan ≤ 500
-    → SaysAll count (with_plan so []) (plan_said plan) (with_plan so plan)
-plan-say count so plan part are few = all-say count (λ (p : ℕ × Choice). line_text (Plan p.0 p.1)) (with_plan so) plan says
+pub plan-say : (count : ℕ) (so : SoFar) (plan : List (ℕ × Choice)) → so.section ≡ section.Settings → ArePlanned 0 plan → length plan ≤ 500
+    → SaysAll count (with_plan so []) (plan_lines plan) (with_plan so plan)
+plan-say count so plan section are few = all-say count (λ (p : ℕ × Choice). line_text (Plan p.0 p.1)) (with_plan so) plan says
   where
     says : (done : List (ℕ × Choice)) (p : ℕ × Choice) (rest : List (ℕ × Choice)) → plan ≡ done ++ p ∷ rest
         → Says (count + length done + 1) (with_plan so done) (line_text (Plan p.0 p.1)) (with_plan so (done ++ p ∷ []))
     says done p rest split =
         let is = planned-at 0 done p rest (subst (ArePlanned 0) split are) in
         let fewer = before-fewer plan done p rest split in
-        setting-written (count + length done + 1) (with_plan so done) (Plan p.0 p.1) (with_plan so (done ++ p ∷ [])) part ((omega arith, is.1), is.2, is.3)
+        setting-written (count + length done + 1) (with_plan so done) (Plan p.0 p.1) (with_plan so (done ++ p ∷ [])) section ((omega arith, is.1), is.2, is.3)
         (plan-taken (count + length done + 1) so (words (line_text (Plan p.0 p.1))) done p is.0 (omega (arith, fewer, few)))

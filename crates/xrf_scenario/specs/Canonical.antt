@@ -26,25 +26,25 @@ abbrev pub text_of : List (List ℕ) → List ℕ
 text_of lines = flat_map fed lines
 
 -- the parts of a scenario, as lines
-abbrev pub records_said : List (ℕ × List ℕ) → List (List ℕ)
-records_said records = map (λ (r : ℕ × List ℕ). line_text (Record r.0 r.1)) records
+abbrev pub record_lines : List (ℕ × List ℕ) → List (List ℕ)
+record_lines records = map (λ (r : ℕ × List ℕ). line_text (Record r.0 r.1)) records
 
-abbrev pub clt_said : List Kept → List (List ℕ)
-clt_said clt = map kept_line clt
+abbrev pub clt_lines : List Kept → List (List ℕ)
+clt_lines clt = map kept_line clt
 
-abbrev pub plan_said : List (ℕ × Choice) → List (List ℕ)
-plan_said plan = map (λ (p : ℕ × Choice). line_text (Plan p.0 p.1)) plan
+abbrev pub plan_lines : List (ℕ × Choice) → List (List ℕ)
+plan_lines plan = map (λ (p : ℕ × Choice). line_text (Plan p.0 p.1)) plan
 
 -- The header; every setting; the records by number; the command list; the work of A, then that of
 -- B; the plan.
 abbrev pub scenario_lines : Scen → List (List ℕ)
 scenario_lines s =
     header_text s.settings.format ∷ map line_text (setting_lines s.settings)
-    ++ records_said s.records
-    ++ clt_said s.clt
+    ++ record_lines s.records
+    ++ clt_lines s.clt
     ++ map (λ (i : Item). line_text (Work A i)) s.work_a
     ++ map (λ (i : Item). line_text (Work B i)) s.work_b
-    ++ plan_said s.plan
+    ++ plan_lines s.plan
 
 -- CHOICES, one line for each choice, without counts, and END
 abbrev pub choice_lines : List Choice → List (List ℕ)

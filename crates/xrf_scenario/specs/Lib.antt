@@ -8,4 +8,5 @@ pub mod Reading
 pub mod Said
 pub mod Machine
 pub mod Held
+pub mod Outcomes
 pub mod Canonical

@@ -14,31 +14,31 @@ use Rattle.xrf_setup.specs.Scenario.{Scen}
 use Rattle.xrf_scenario.specs.Settled.{scenario_of}
 use Rattle.xrf_scenario.specs.SoFar.{SoFar, nothing_said, is_whole}
 use Rattle.xrf_scenario.specs.Taking.{take}
-use Rattle.xrf_scenario.specs.declared.given.Part.{Part}
-use Rattle.xrf_scenario.specs.declared.given.Part.TheVariants.{Start, Settings, Making, Whole}
+use Rattle.xrf_scenario.specs.declared.section.Section.{Section}
+use Rattle.xrf_scenario.specs.declared.section.Section.TheVariants.{Start, Settings, Making, Whole}
 use Rattle.xrf_scenario.specs.declared.numbered.Numbered.{Numbered}
 
 -- what is said once the header has come
 abbrev pub begun : SoFar → Format → SoFar
-begun so format = record so { part = Settings; format = format }
+begun so format = record so { section = Settings; format = format }
 
--- Some words say something in a part of the text: they are a header, or they spell a line of the
--- part, and what was said before lets it come.
-abbrev pub SaysIn : Part → ℕ → SoFar → List (List ℕ) → SoFar → Type 0
+-- Some words say something in a section of the text: they are a header, or they spell a line of the
+-- section, and what was said before lets it come.
+abbrev pub SaysIn : Section → ℕ → SoFar → List (List ℕ) → SoFar → Type 0
 SaysIn Start number so ws next = (format : Format) × ((ws ≡ header_words format) × (next ≡ begun so format))
 SaysIn Settings number so ws next = (line : Line) × (Spells (settings_of so.format) ws line × (take number so ws line ≡ Ok next))
 SaysIn Making number so ws next = (line : Line) × (Spells choices_table ws line × (take number so ws line ≡ Ok next))
 SaysIn Whole number so ws next = ⊥
 
 -- The next line of a text, which has this number, is skipped, or is one of a report behind END, or
--- is of bytes from blank to `~`, at most 300, and its words say something in its part.
+-- is of bytes from blank to `~`, at most 300, and its words say something in its section.
 abbrev pub SaysThen : Bool → Bool → ℕ → SoFar → List ℕ → SoFar → Type 0
 SaysThen true ended number so line next = next ≡ so
 SaysThen false true number so line next = IsTrue (is_report line) × (next ≡ so)
-SaysThen false false number so line next = (bytes_fault line ≡ None) × SaysIn so.part number so (words line) next
+SaysThen false false number so line next = (bytes_fault line ≡ None) × SaysIn so.section number so (words line) next
 
 abbrev pub Says : ℕ → SoFar → List ℕ → SoFar → Type 0
-Says number so line next = SaysThen (is_skipped line) (is_whole so.part) number so line next
+Says number so line next = SaysThen (is_skipped line) (is_whole so.section) number so line next
 
 -- the lines behind so many lines say, one after the other
 abbrev pub SaysAll : ℕ → SoFar → List (List ℕ) → SoFar → Type 0
@@ -49,7 +49,7 @@ SaysAll count so (line ∷ lines) last = (next : SoFar) × (Says (count + 1) so 
 pub record Reads (text : List ℕ) (s : Scen) (choices : List Numbered) : Type 0 where
   pub last : SoFar
   pub said : SaysAll 0 nothing_said (text_lines text) last
-  pub whole : IsTrue (is_whole last.part)
+  pub whole : IsTrue (is_whole last.section)
   pub scenario : s ≡ scenario_of last
   pub made : choices ≡ last.choices
 
@@ -71,7 +71,7 @@ pub record HasBadLine (text : List ℕ) (number : ℕ) (reason : Reason) : Type 
 pub record EndsEarly (text : List ℕ) (number : ℕ) (reason : Reason) : Type 0 where
   pub last : SoFar
   pub said : SaysAll 0 nothing_said (text_lines text) last
-  pub early : is_whole last.part ≡ false
+  pub early : is_whole last.section ≡ false
   pub place : number ≡ max 1 (length (text_lines text))
   pub no_end : reason ≡ NoEnd
 

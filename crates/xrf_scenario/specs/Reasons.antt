@@ -20,27 +20,27 @@ use Rattle.xrf_scenario.specs.Lines.{is_report}
 use Rattle.xrf_text.specs.Text.{is_printable}
 use Rattle.xrf_scenario.specs.SoFar.{SoFar, is_whole}
 use Rattle.xrf_scenario.specs.Taking.{are_within, has_choice_room, has_clt_room, has_plan_room, has_work_room, is_early, is_free}
-use Rattle.xrf_scenario.specs.declared.given.Part.{Part}
-use Rattle.xrf_scenario.specs.declared.given.Part.TheVariants.{Start, Settings, Making, Whole}
+use Rattle.xrf_scenario.specs.declared.section.Section.{Section}
+use Rattle.xrf_scenario.specs.declared.section.Section.TheVariants.{Start, Settings, Making, Whole}
 
 -- the words of a header, as it is written
 abbrev pub header_words : Format → List (List ℕ)
 header_words format = words (header_text format)
 
--- the forms of a part of the text, before and behind CHOICES
-abbrev pub forms_of : Part → Format → List Form
+-- the forms of a section of the text, before and behind CHOICES
+abbrev pub forms_of : Section → Format → List Form
 forms_of Settings format = settings_of format
 forms_of Making format = choices_table
 forms_of _ format = []
 
-abbrev pub has_forms : Part → Bool
+abbrev pub has_forms : Section → Bool
 has_forms Settings = true
 has_forms Making = true
 has_forms _ = false
 
--- the words of a line spell a line of the part of the text that is next
+-- the words of a line spell a line of the section of the text that is next
 abbrev pub SpellsNext : SoFar → List ℕ → Line → Type 0
-SpellsNext so text line = Spells (forms_of so.part so.format) (words text) line
+SpellsNext so text line = Spells (forms_of so.section so.format) (words text) line
 
 -- a setting, or a record number, that was given before
 abbrev pub is_given : SoFar → Line → Bool
@@ -87,11 +87,11 @@ pub record SpellsBad (so : SoFar) (text : List ℕ) (test : Line → Bool) : Typ
 
 -- Where a reason of a text holds of a line: of its bytes, its place, and what was said before.
 abbrev pub HoldsOfText : SoFar → List ℕ → Reason → Type 0
-HoldsOfText so text BadByte = (is_whole so.part ≡ false) × (list_all is_printable text ≡ false)
-HoldsOfText so text LongLine = (is_whole so.part ≡ false) × (LINE_MOST < length text)
-HoldsOfText so text NoHeader = (so.part ≡ Start) × (first (words text) ≢ codes "XRF")
-HoldsOfText so text BadFormat = (so.part ≡ Start) × ((format : Format) → words text ≢ header_words format)
-HoldsOfText so text AfterEnd = (so.part ≡ Whole) × (is_report text ≡ false)
+HoldsOfText so text BadByte = (is_whole so.section ≡ false) × (list_all is_printable text ≡ false)
+HoldsOfText so text LongLine = (is_whole so.section ≡ false) × (LINE_MOST < length text)
+HoldsOfText so text NoHeader = (so.section ≡ Start) × (first (words text) ≢ codes "XRF")
+HoldsOfText so text BadFormat = (so.section ≡ Start) × ((format : Format) → words text ≢ header_words format)
+HoldsOfText so text AfterEnd = (so.section ≡ Whole) × (is_report text ≡ false)
 HoldsOfText so text PlanOrder = SpellsBad so text (falls so)
 HoldsOfText so text Twice = SpellsBad so text (is_given so)
 HoldsOfText so text TooMany = SpellsBad so text (is_over so)
@@ -99,6 +99,6 @@ HoldsOfText so text RrnRange = SpellsBad so text (is_outside so)
 HoldsOfText so text reason = ⊥
 
 -- A reason holds of a line that is not skipped, behind lines that say so much: one of the text, or
--- one of its words by the forms of its part.
+-- one of its words by the forms of its section.
 abbrev pub Holds : SoFar → List ℕ → Reason → Type 0
-Holds so text reason = HoldsOfText so text reason ⊎ ((has_forms so.part ≡ true) × IsFaultOf (forms_of so.part so.format) (words text) reason)
+Holds so text reason = HoldsOfText so text reason ⊎ ((has_forms so.section ≡ true) × IsFaultOf (forms_of so.section so.format) (words text) reason)

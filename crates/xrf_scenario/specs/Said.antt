@@ -4,33 +4,30 @@ use Rattle.std.specs.List.{AllByRecursion}
 use Rattle.xrf_base.specs.Values.{IsValue}
 use Rattle.xrf_base.specs.declared.site.Site.TheVariants.{A, B}
 use Rattle.xrf_clt.specs.Lines.{fault_of, words_kept}
-use Rattle.xrf_grammar.specs.LineText.{IsSetting, IsChoosing}
+use Rattle.xrf_grammar.specs.LineText.{IsSetting}
 use Rattle.xrf_setup.specs.Items.{IsItemOf}
 use Rattle.xrf_grammar.specs.Places.{behind}
 use Rattle.xrf_setup.specs.Choices.{HasLine}
 use Rattle.xrf_setup.specs.declared.format.Format.{Format}
 use Rattle.xrf_setup.specs.declared.ranges.TheConstants.{FILE_MOST, CLT_MOST, ITEMS_MOST, PLAN_MOST, CHOICES_MOST}
 use Rattle.xrf_grammar.specs.declared.line.Line.{Line}
-use Rattle.xrf_grammar.specs.declared.line.Line.TheVariants.{Applid, Adi, Pdi, Log, Ring, File, Pace, Ticks, Level, Xrfsoff, Clt, Once, Times, End}
+use Rattle.xrf_grammar.specs.declared.line.Line.TheVariants.{Applid, Adi, Pdi, Log, Ring, File, Pace, Ticks, Level, Xrfsoff, Clt}
 use Rattle.xrf_setup.specs.Scenario.{ArePlanned}
 use Rattle.xrf_setup.specs.Commands.{IsKept}
 use Rattle.xrf_scenario.specs.SoFar.{SoFar, nothing_given}
 use Rattle.xrf_scenario.specs.Taking.{are_within}
 use Rattle.xrf_scenario.specs.declared.given.Given.{Given}
-use Rattle.xrf_scenario.specs.declared.given.Part.{Part}
-use Rattle.xrf_scenario.specs.declared.given.Part.TheVariants.{Start, Making, Whole}
+use Rattle.xrf_scenario.specs.declared.section.Section.{Section}
+use Rattle.xrf_scenario.specs.declared.section.Section.TheVariants.{Start, Making, Whole}
 use Rattle.xrf_scenario.specs.declared.numbered.Numbered.{Numbered}
 
--- what is known of a line that some words spell
+-- what is known of a line before the choices that some words spell
 abbrev pub IsLineSaid : Format → List (List ℕ) → Line → Type 0
 IsLineSaid format ws Clt = (fault_of (behind ws) ≡ None) × IsKept (words_kept (behind ws))
-IsLineSaid format ws (Once choice) = IsChoosing (Once choice)
-IsLineSaid format ws (Times choice count) = IsChoosing (Times choice count)
-IsLineSaid format ws End = IsChoosing End
 IsLineSaid format ws line = IsSetting format line
 
 -- CHOICES has come
-abbrev pub is_past : Part → Bool
+abbrev pub is_past : Section → Bool
 is_past Making = true
 is_past Whole = true
 is_past _ = false
@@ -51,12 +48,12 @@ pub record IsGiven (format : Format) (given : Given) : Type 0 where
   pub force : IfSome given.force (λ force. IsSetting format (Xrfsoff force))
 
 -- before the header nothing is said
-abbrev pub IsFresh : Part → SoFar → Type 0
+abbrev pub IsFresh : Section → SoFar → Type 0
 IsFresh Start so = (so.given ≡ nothing_given) × (so.work_a ≡ []) × (so.work_b ≡ [])
 IsFresh _ so = Unit {0}
 
 pub record IsSaid (so : SoFar) : Type 0 where
-  pub fresh : IsFresh so.part so
+  pub fresh : IsFresh so.section so
   pub given : IsGiven so.format so.given
   pub places : length so.records ≡ FILE_MOST
   pub values : AllByRecursion (λ place. IfSome place IsValue) so.records
@@ -70,4 +67,4 @@ pub record IsSaid (so : SoFar) : Type 0 where
   pub plan_few : length so.plan ≤ PLAN_MOST
   pub choices : AllByRecursion (λ (n : Numbered). HasLine n.choice) so.choices
   pub choices_few : length so.choices ≤ CHOICES_MOST
-  pub within : is_past so.part ≡ true → are_within so ≡ true
+  pub within : is_past so.section ≡ true → are_within so ≡ true

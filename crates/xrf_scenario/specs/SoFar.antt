@@ -7,13 +7,13 @@ use Rattle.xrf_setup.specs.declared.ranges.TheConstants.{FILE_MOST}
 use Rattle.xrf_setup.specs.declared.format.Format.{Format}
 use Rattle.xrf_setup.specs.declared.format.Format.TheVariants.{One}
 use Rattle.xrf_scenario.specs.declared.given.Given.{Given}
-use Rattle.xrf_scenario.specs.declared.given.Part.{Part}
-use Rattle.xrf_scenario.specs.declared.given.Part.TheVariants.{Start, Whole}
+use Rattle.xrf_scenario.specs.declared.section.Section.{Section}
+use Rattle.xrf_scenario.specs.declared.section.Section.TheVariants.{Start, Whole}
 use Rattle.xrf_scenario.specs.declared.numbered.Numbered.{Numbered}
 
 pub record SoFar : Type 0 where
-  -- the part of the text that the next line is of
-  pub part : Part
+  -- the section of the text that the next line is of
+  pub section : Section
   pub format : Format
   -- the settings that lines gave
   pub given : Given
@@ -31,9 +31,9 @@ nothing_given = record { applid_a = None; applid_b = None; takeovr = None; adi =
 
 -- before the first line
 abbrev pub nothing_said : SoFar
-nothing_said = record { part = Start; format = One; given = nothing_given; records = replicate FILE_MOST None; clt = []; work_a = []; work_b = []; plan = []; choices = [] }
+nothing_said = record { section = Start; format = One; given = nothing_given; records = replicate FILE_MOST None; clt = []; work_a = []; work_b = []; plan = []; choices = [] }
 
-abbrev pub is_whole : Part → Bool
+abbrev pub is_whole : Section → Bool
 is_whole Whole = true
 is_whole _ = false
 

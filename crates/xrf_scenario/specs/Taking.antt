@@ -13,7 +13,7 @@ use Rattle.xrf_grammar.specs.declared.reason.Reason.{Reason}
 use Rattle.xrf_grammar.specs.declared.reason.Reason.TheVariants.{PlanOrder, Twice, TooMany, RrnRange}
 use Rattle.xrf_scenario.specs.SoFar.{SoFar, file_said}
 use Rattle.xrf_scenario.specs.declared.given.Given.{Given}
-use Rattle.xrf_scenario.specs.declared.given.Part.TheVariants.{Making, Whole}
+use Rattle.xrf_scenario.specs.declared.section.Section.TheVariants.{Making, Whole}
 use Rattle.xrf_scenario.specs.declared.numbered.Numbered.{Numbered}
 
 -- a setting is given once
@@ -93,8 +93,8 @@ take number so ws Clt = with_room (has_clt_room so) (record so { clt = so.clt ++
 take number so ws (Work A item) = with_room (has_work_room so.work_a) (record so { work_a = so.work_a ++ item ∷ [] })
 take number so ws (Work B item) = with_room (has_work_room so.work_b) (record so { work_b = so.work_b ++ item ∷ [] })
 take number so ws (Plan tick choice) = if is_early so tick then Err PlanOrder else with_room (has_plan_room so) (record so { plan = so.plan ++ (tick, choice) ∷ [] })
-take number so ws Choices = if are_within so then Ok (record so { part = Making }) else Err RrnRange
+take number so ws Choices = if are_within so then Ok (record so { section = Making }) else Err RrnRange
 take number so ws (Once choice) = with_room (has_choice_room so 1) (record so { choices = so.choices ++ numbered number choice ∷ [] })
 take number so ws (Times choice count) = with_room (has_choice_room so count) (record so { choices = so.choices ++ replicate count (numbered number choice) })
-take number so ws End = Ok (record so { part = Whole })
+take number so ws End = Ok (record so { section = Whole })
 take number so ws setting = take_setting so so.given setting

@@ -7,7 +7,7 @@ ghost use Rattle.xrf_grammar.specs.LineText.{header_text, line_text};
 ghost use Rattle.xrf_grammar.specs.Spelling.{choice_text};
 ghost use Rattle.xrf_setup.specs.declared.choice.Choice.{Choice};
 ghost use Rattle.xrf_grammar.specs.declared.line.Line.TheVariants.{Work, Plan};
-ghost use Rattle.xrf_scenario.specs.Canonical.{fed, text_of, records_said, clt_said, plan_said, scenario_lines, choice_lines, canon, ReadAgain};
+ghost use Rattle.xrf_scenario.specs.Canonical.{fed, text_of, record_lines, clt_lines, plan_lines, scenario_lines, choice_lines, canon, ReadAgain};
 ghost use Rattle.xrf_setup.specs.Scenario.{IsScen};
 ghost use Rattle.xrf_scenario.specs.SettingLines.{setting_lines, level_lines, SettingsAreLines};
 ghost use Rattle.xrf_setup.specs.Commands.{kept_text};
@@ -85,7 +85,7 @@ fn put_settings(alloc: Global, out: &mut Vec<u8>, settings: &Settings) -> Result
 }
 
 fn put_records(alloc: Global, out: &mut Vec<u8>, records: &[(u16, Value)]) -> Result<(), AllocError>
-    ensures { OnOk result (out.new.items ≡ out.old.items ++ text_of (records_said records.now)) }
+    ensures { OnOk result (out.new.items ≡ out.old.items ++ text_of (record_lines records.now)) }
 {
     for (number, value) in records {
         put_fed(alloc, out, &Line::Record(*number, *value))?;
@@ -115,7 +115,7 @@ fn put_command<'a>(
 }
 
 fn put_clt(alloc: Global, out: &mut Vec<u8>, clt: &Clt) -> Result<(), AllocError>
-    ensures { OnOk result (out.new.items ≡ out.old.items ++ text_of (clt_said clt.now)) }
+    ensures { OnOk result (out.new.items ≡ out.old.items ++ text_of (clt_lines clt.now)) }
 {
     for place in 0..clt.count() {
         let (applid, text) = clt.line(place);
@@ -151,7 +151,7 @@ fn put_planned(
 }
 
 fn put_plan(alloc: Global, out: &mut Vec<u8>, plan: &[(Tick, Choice)]) -> Result<(), AllocError>
-    ensures { OnOk result (out.new.items ≡ out.old.items ++ text_of (plan_said plan.now)) }
+    ensures { OnOk result (out.new.items ≡ out.old.items ++ text_of (plan_lines plan.now)) }
 {
     for (tick, choice) in plan {
         put_planned(alloc, out, *tick, choice)?;

@@ -2,19 +2,6 @@
 
 use xrf_base::{Name8, Takeovr};
 
-/// The part of a text that the next line is of.
-#[derive(Clone, Copy, Debug, PartialEq, Eq)]
-pub enum Part {
-    /// The header.
-    Start,
-    /// The scenario.
-    Settings,
-    /// The choices.
-    Making,
-    /// What stands behind END.
-    Whole,
-}
-
 /// The settings that lines gave, each at most once.
 #[derive(Clone, Copy)]
 pub struct Given {

@@ -10,6 +10,7 @@ mod lines;
 mod numbered;
 mod read_bad;
 mod reading;
+mod section;
 mod setting;
 mod settled;
 mod stepping;
@@ -24,6 +25,8 @@ pub use text::{one_reading, read};
 pub use xrf_grammar::Reason;
 pub use xrf_setup::{Choice, Format, Landing, Scenario, Settings, TornBytes};
 
+#[cfg(test)]
+mod line_rows;
 #[cfg(test)]
 mod line_tests;
 #[cfg(test)]

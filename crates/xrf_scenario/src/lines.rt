@@ -51,7 +51,10 @@ fn begins_with(mark: u8, line: &[u8]) -> bool
 fn has_no_word(line: &[u8]) -> bool
     ensures { result ≡ are_none (words line.now) }
 {
-    split_word(line).is_none()
+    match line {
+        [] | [b' ', ..] => split_word(line).is_none(),
+        _ => false,
+    }
 }
 
 /// Whether a line is blank or a comment.

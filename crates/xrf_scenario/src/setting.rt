@@ -1,19 +1,19 @@
 //! The settings, each of which is given once.
 
-ghost use Rattle.xrf_scenario.specs.Held.{said, Tells};
+ghost use Rattle.std.specs.Prelude.{Option, Some};
+ghost use Rattle.xrf_scenario.specs.Outcomes.{Takes};
 ghost use Rattle.xrf_scenario.specs.SoFar.{SoFar};
 ghost use Rattle.xrf_scenario.specs.Taking.{once, take_setting};
-ghost use Rattle.std.specs.Prelude.{Option, Some};
 ghost use Rattle.xrf_scenario.specs.declared.given.Given.{Given};
 ghost use Rattle.xrf_grammar.specs.declared.line.Line.TheVariants.{Applid, Level};
 
-use crate::reading::Reading;
+use crate::given::Given;
 use crate::stop::Stop;
 use xrf_base::{Name8, Site};
 use xrf_grammar::{Line, Reason};
 
 fn once<T: Copy>(slot: &mut Option<T>, value: T) -> Result<(), Stop>
-    ensures { (so : SoFar) (put : Option T → Given) → Tells result (record so { given = put slot.new }) (once slot.old so (put (Some value))) }
+    ensures { (so : SoFar) (put : Option T → Given) → Takes result (record so { given = put slot.old }) (record so { given = put slot.new }) (once slot.old so (put (Some value))) }
 {
     if slot.is_some() {
         return Err(Stop::Fault(Reason::Twice));
@@ -22,42 +22,42 @@ fn once<T: Copy>(slot: &mut Option<T>, value: T) -> Result<(), Stop>
     Ok(())
 }
 
-impl<'a> Reading<'a> {
+impl Given {
     fn take_applid(&mut self, site: Site, name: Name8) -> Result<(), Stop>
-        ensures { Tells result (said self.new) (take_setting (said self.old) self.old.given (Applid site name)) }
+        ensures { (so : SoFar) → Takes result (record so { given = self.old }) (record so { given = self.new }) (take_setting so self.old (Applid site name)) }
     {
         match site {
-            Site::A => once(&mut self.given.applid_a, name),
-            Site::B => once(&mut self.given.applid_b, name),
+            Site::A => once(&mut self.applid_a, name),
+            Site::B => once(&mut self.applid_b, name),
         }
     }
 
     fn take_level(&mut self, site: Site, n: u16) -> Result<(), Stop>
-        ensures { Tells result (said self.new) (take_setting (said self.old) self.old.given (Level site n)) }
+        ensures { (so : SoFar) → Takes result (record so { given = self.old }) (record so { given = self.new }) (take_setting so self.old (Level site n)) }
     {
         match site {
-            Site::A => once(&mut self.given.level_a, n),
-            Site::B => once(&mut self.given.level_b, n),
+            Site::A => once(&mut self.level_a, n),
+            Site::B => once(&mut self.level_b, n),
         }
     }
 
-    /// Takes a setting, which must not have been given before.
-    pub(crate) fn take_setting(&mut self, line: &Line) -> Result<(), Stop>
-        ensures { Tells result (said self.new) (take_setting (said self.old) self.old.given line.now) }
+    /// Takes a setting, which must not have been given before. A line that gives none adds nothing.
+    pub fn take(&mut self, line: &Line) -> Result<(), Stop>
+        ensures { (so : SoFar) → Takes result (record so { given = self.old }) (record so { given = self.new }) (take_setting (record so { given = self.old }) self.old line.now) }
     {
         match line {
             Line::Applid(site, name) => self.take_applid(*site, *name),
-            Line::Takeovr(mode) => once(&mut self.given.takeovr, *mode),
-            Line::Adi(n) => once(&mut self.given.adi, *n),
-            Line::Pdi(n) => once(&mut self.given.pdi, *n),
-            Line::Log(n) => once(&mut self.given.log, *n),
-            Line::Ring(n) => once(&mut self.given.ring, *n),
-            Line::File(n) => once(&mut self.given.file, *n),
-            Line::Pace(n) => once(&mut self.given.pace, *n),
-            Line::Ticks(n) => once(&mut self.given.ticks, *n),
-            Line::Images(on) => once(&mut self.given.images, *on),
+            Line::Takeovr(mode) => once(&mut self.takeovr, *mode),
+            Line::Adi(n) => once(&mut self.adi, *n),
+            Line::Pdi(n) => once(&mut self.pdi, *n),
+            Line::Log(n) => once(&mut self.log, *n),
+            Line::Ring(n) => once(&mut self.ring, *n),
+            Line::File(n) => once(&mut self.file, *n),
+            Line::Pace(n) => once(&mut self.pace, *n),
+            Line::Ticks(n) => once(&mut self.ticks, *n),
+            Line::Images(on) => once(&mut self.images, *on),
             Line::Level(site, n) => self.take_level(*site, *n),
-            Line::Xrfsoff(force) => once(&mut self.given.force, *force),
+            Line::Xrfsoff(force) => once(&mut self.force, *force),
             _ => Ok(()),
         }
     }

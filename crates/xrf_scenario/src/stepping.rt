@@ -1,40 +1,31 @@
-//! One line of a text, in the part of the text that it is of.
+//! One line of a text, in the section of the text that it is of.
 
 ghost use Rattle.std.specs.Prelude.{◌≡◌, ℕ, List, false, None, Ok, IfSome};
 ghost use Rattle.xrf_grammar.specs.Reading.{header_of, line_of};
 ghost use Rattle.xrf_grammar.specs.Table.{settings_of, choices_table};
-ghost use Rattle.xrf_scenario.specs.Held.{said, Tells};
-ghost use Rattle.xrf_grammar.specs.declared.line.Line.TheVariants.{Once};
-ghost use Rattle.xrf_scenario.specs.declared.given.Part.TheVariants.{Making};
+ghost use Rattle.xrf_scenario.specs.Outcomes.{Takes};
+ghost use Rattle.xrf_scenario.specs.declared.section.Section.TheVariants.{Start, Settings, Making};
 ghost use Rattle.xrf_scenario.specs.Lines.{bytes_fault, is_skipped};
 ghost use Rattle.xrf_scenario.specs.Machine.{SaysOnce, take_header, take_line, take_words, step};
-ghost use Rattle.xrf_scenario.specs.Said.{IsSaid, IsLineSaid};
-ghost use Rattle.xrf_scenario.specs.SoFar.{is_whole};
 ghost use Rattle.xrf_text.specs.Text.{words};
 
-use crate::given::Part;
 use crate::last_choice::LastChoice;
 use crate::lines::{bytes_fault, is_report, is_skipped};
 use crate::reading::Reading;
+use crate::section::Section;
 use crate::stop::Stop;
 use std::alloc::Global;
 use xrf_grammar::{Line, Reason, read_choice, read_header, read_setting};
 use xrf_setup::Choice;
 
-/// Whether END has come.
-pub fn is_whole(part: Part) -> bool
-    ensures { result ≡ is_whole part }
-{
-    matches!(part, Part::Whole)
-}
-
 impl<'a> Reading<'a> {
     fn take_header(&mut self, text: &[u8]) -> Result<(), Stop>
-        ensures { Tells result (said self.new) (take_header (said self.old) (header_of (words text.now))) }
+        requires { self.old.section ≡ Start }
+        ensures { Takes result self.old self.new (take_header self.old (header_of (words text.now))) }
     {
         match read_header(text) {
             Ok(format) => {
-                self.part = Part::Settings;
+                self.section = Section::Settings;
                 self.format = format;
                 Ok(())
             }
@@ -42,13 +33,13 @@ impl<'a> Reading<'a> {
         }
     }
 
-    fn take_setting_line(&mut self, alloc: Global, number: u32, text: &[u8]) -> Result<(), Stop>
-        requires said { IsSaid (said self.old) }
+    fn take_setting_line(&mut self, alloc: Global, text: &[u8]) -> Result<(), Stop>
+        requires section { self.old.section ≡ Settings }
         requires bytes { bytes_fault text.now ≡ None }
-        ensures { Tells result (said self.new) (take_line number (said self.old) (words text.now) (line_of (settings_of (said self.old).format) (words text.now))) }
+        ensures { (number : ℕ) → Takes result self.old self.new (take_line number self.old (words text.now) (line_of (settings_of self.old.format) (words text.now))) }
     {
         match read_setting(self.format, text) {
-            Ok(line) => self.take(alloc, number, text, &line),
+            Ok(line) => self.take_setting(alloc, text, &line),
             Err(reason) => Err(Stop::Fault(reason)),
         }
     }
@@ -58,23 +49,23 @@ impl<'a> Reading<'a> {
         requires shown { is_skipped text.now ≡ false }
         requires bytes { bytes_fault text.now ≡ None }
         requires line { line_of choices_table (words text.now) ≡ Ok line.now }
-        ensures { said self.new ≡ said self.old }
+        ensures { self.new ≡ self.old }
     {
         if let Line::Once(choice) = line {
             self.last_choice = LastChoice::new(text, *choice);
         }
     }
 
-    fn take_choice_line(&mut self, alloc: Global, number: u32, text: &'a [u8]) -> Result<(), Stop>
-        requires said { IsSaid (said self.old) }
+    fn take_choice_line(&mut self, number: u32, text: &'a [u8]) -> Result<(), Stop>
+        requires section { self.old.section ≡ Making }
         requires shown { is_skipped text.now ≡ false }
         requires bytes { bytes_fault text.now ≡ None }
-        ensures { Tells result (said self.new) (take_line number (said self.old) (words text.now) (line_of choices_table (words text.now))) }
+        ensures { Takes result self.old self.new (take_line number self.old (words text.now) (line_of choices_table (words text.now))) }
     {
         match read_choice(text) {
             Ok(line) => {
                 self.keep_choice(text, &line);
-                self.take(alloc, number, text, &line)
+                self.take_choosing(number, &line)
             }
             Err(reason) => Err(Stop::Fault(reason)),
         }
@@ -82,48 +73,39 @@ impl<'a> Reading<'a> {
 
     // the choice that a line says once, where it is the same as the last that did
     fn choice_again(&self, line: &[u8]) -> Option<Choice>
-        ensures { IfSome result (λ c. ((said self.now).part ≡ Making) × SaysOnce line.now c) }
+        ensures { IfSome result (λ c. (self.now.section ≡ Making) × SaysOnce line.now c) }
     {
-        match self.part {
-            Part::Making => self.last_choice.of(line),
+        match self.section {
+            Section::Making => self.last_choice.of(line),
             _ => None,
         }
     }
 
-    // takes a choice that a line says once
-    fn take_once(&mut self, number: u32, choice: Choice) -> Result<(), Stop>
-        ensures { (ws : List (List ℕ)) → Tells result (said self.new) (take_line number (said self.old) ws (Ok (Once choice))) }
-    {
-        self.take_choice(number, choice, 1)
-    }
-
     fn take_words(&mut self, alloc: Global, number: u32, text: &'a [u8]) -> Result<(), Stop>
-        requires said { IsSaid (said self.old) }
         requires shown { is_skipped text.now ≡ false }
         requires bytes { bytes_fault text.now ≡ None }
-        ensures { Tells result (said self.new) (take_words (said self.old).part number (said self.old) (words text.now)) }
+        ensures { Takes result self.old self.new (take_words self.old.section number self.old (words text.now)) }
     {
-        match self.part {
-            Part::Start => self.take_header(text),
-            Part::Settings => self.take_setting_line(alloc, number, text),
-            Part::Making => self.take_choice_line(alloc, number, text),
-            Part::Whole => Err(Stop::Fault(Reason::AfterEnd)),
+        match self.section {
+            Section::Start => self.take_header(text),
+            Section::Settings => self.take_setting_line(alloc, text),
+            Section::Making => self.take_choice_line(number, text),
+            Section::Whole => Err(Stop::Fault(Reason::AfterEnd)),
         }
     }
 
-    /// Takes the next line, which has this number, or answers why it may not come. After that answer
-    /// the reading is of no more use.
+    /// Takes the next line, which has this number, or answers why it may not come, and then stays
+    /// as it was.
     pub fn step(&mut self, alloc: Global, number: u32, line: &'a [u8]) -> Result<(), Stop>
-        requires { IsSaid (said self.old) }
-        ensures { Tells result (said self.new) (step number (said self.old) line.now) }
+        ensures { Takes result self.old self.new (step number self.old line.now) }
     {
         if is_skipped(line) {
             return Ok(());
         }
         if let Some(choice) = self.choice_again(line) {
-            return self.take_once(number, choice);
+            return self.take_choice(number, choice, 1);
         }
-        if is_whole(self.part) {
+        if self.section.is_whole() {
             if is_report(line) {
                 return Ok(());
             }

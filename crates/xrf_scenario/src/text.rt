@@ -3,8 +3,7 @@
 ghost use Rattle.std.specs.Prelude.{◌≡◌, ◌≤◌, ◌+◌, ℕ, length, [], map, true, IfOk, IfErr};
 ghost use Rattle.xrf_scenario.specs.Lines.{text_lines};
 ghost use Rattle.xrf_scenario.specs.Machine.{read_whole, read_on};
-ghost use Rattle.xrf_scenario.specs.Held.{said, bad_of, Gives, IsBad};
-ghost use Rattle.xrf_scenario.specs.Said.{IsSaid};
+ghost use Rattle.xrf_scenario.specs.Outcomes.{bad_of, Gives, IsBad};
 ghost use Rattle.xrf_scenario.specs.SoFar.{is_whole};
 ghost use Rattle.xrf_scenario.specs.Reading.{Reads, OneReading, NeverBoth, OneFault};
 ghost use Rattle.xrf_scenario.specs.Canonical.{AreChoices};
@@ -16,7 +15,6 @@ use crate::numbered::Numbered;
 use crate::read_bad::ReadBad;
 use crate::reading::Reading;
 use crate::settled::settled;
-use crate::stepping::is_whole;
 use crate::stop::Stop;
 use std::alloc::{AllocError, Global};
 use xrf_base::Value;
@@ -34,11 +32,10 @@ fn bad_of(stop: Stop, line: u32) -> ReadBad
 }
 
 fn end_or_fault<'a>(reading: Reading<'a>, count: u32) -> Result<Reading<'a>, ReadBad>
-    requires { IsSaid (said reading) }
-    ensures gives { Gives result (read_on (said reading.entry) count []) }
-    ensures whole { IfOk result (λ r. IsSaid (said r) × (is_whole r.part ≡ true)) }
+    ensures gives { Gives result (read_on reading.entry count []) }
+    ensures whole { IfOk result (λ r. is_whole r.section ≡ true) }
 {
-    if is_whole(reading.part) {
+    if reading.section.is_whole() {
         return Ok(reading);
     }
     Err(ReadBad::Bad {
@@ -50,7 +47,7 @@ fn end_or_fault<'a>(reading: Reading<'a>, count: u32) -> Result<Reading<'a>, Rea
 fn read_lines<'a>(alloc: Global, text: &'a [u8]) -> Result<Reading<'a>, ReadBad>
     requires { length text.now ≤ INPUT_MOST }
     ensures gives { Gives result (read_whole text.now) }
-    ensures whole { IfOk result (λ r. IsSaid (said r) × (is_whole r.part ≡ true)) }
+    ensures whole { IfOk result (λ r. is_whole r.section ≡ true) }
 {
     let mut reading = Reading::new(alloc)?;
     let mut rest = text;
@@ -83,13 +80,13 @@ fn by_number(alloc: Global, places: &[Option<Value>]) -> Result<Vec<(u16, Value)
 
 // the scenario and the choices of what is said
 fn parts<'a>(alloc: Global, reading: Reading<'a>) -> Result<(Scenario, Vec<Numbered>), AllocError>
-    requires said { IsSaid (said reading) }
-    requires whole { is_whole reading.part ≡ true }
-    ensures scenario { IfOk result (λ r. r.0 ≡ scenario_of (said reading.entry)) }
-    ensures choices { IfOk result (λ r. r.1.items ≡ (said reading.entry).choices) }
+    requires { is_whole reading.section ≡ true }
+    ensures scenario { IfOk result (λ r. r.0 ≡ scenario_of reading.entry) }
+    ensures choices { IfOk result (λ r. r.1.items ≡ reading.entry.choices) }
+    ensures lines { IfOk result (λ r. AreChoices (map (λ (n : Numbered). n.choice) r.1.items)) }
 {
     let Reading {
-        part: _,
+        section: _,
         format,
         given,
         records,

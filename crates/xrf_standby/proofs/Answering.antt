@@ -16,8 +16,8 @@ use Rattle.xrf_history.specs.Working.{item_answer}
 use Rattle.xrf_active.specs.Promoting.{WasAlternate}
 use Rattle.xrf_active.proofs.Alternates.{no_notice}
 use Rattle.xrf_active.proofs.Taken.{gate-answer}
-use Rattle.xrf_standby.specs.declared.standby.Standby.{Standby}
-use Rattle.xrf_standby.specs.Standing.{Stands}
+use Rattle.xrf_standby.specs.declared.alternate.Alternate.{Alternate}
+use Rattle.xrf_standby.specs.Alternate.{Stands}
 use Rattle.xrf_standby.proofs.Acts.{is_act, next_act}
 
 -- The answers that an alternate takes: none of an act of an owner, no ABEND and no EXIT.
@@ -95,9 +95,9 @@ pub refused : (p : Settings) (h : List Event) (a b : Answer) → a ≡ b → Was
 refused p h a b same was alt is may = cc (not_handed p h b was alt is, ap (may_take p h) same, may)
 
 -- a job that stands after an answer stands after the same answer
-pub taken : (job : Standby) (p : Settings) (h : List Event) (a b : Answer) → a ≡ b → Stands job (event p h b ∷ h) → Stands job (event p h a ∷ h)
+pub taken : (job : Alternate) (p : Settings) (h : List Event) (a b : Answer) → a ≡ b → Stands job (event p h b ∷ h) → Stands job (event p h a ∷ h)
 taken job p h a b same stands = subst (λ (x : Answer). Stands job (event p h x ∷ h)) (sym same) stands
 
 -- after an act that failed it stands after the same act
-pub failed-act : (job : Standby) (h : List Event) (at : ℕ) (tried act : Want) → act ≡ tried → Stands job (ActFailed tried at ∷ h) → Stands job (ActFailed act at ∷ h)
+pub failed-act : (job : Alternate) (h : List Event) (at : ℕ) (tried act : Want) → act ≡ tried → Stands job (ActFailed tried at ∷ h) → Stands job (ActFailed act at ∷ h)
 failed-act job h at tried act same stands = subst (λ (w : Want). Stands job (ActFailed w at ∷ h)) (sym same) stands

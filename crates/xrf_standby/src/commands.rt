@@ -5,14 +5,14 @@ ghost use Rattle.xrf_history.specs.Events.{Event, Replied, Commanded, LineIssued
 ghost use Rattle.xrf_history.specs.Holding.{is_owner};
 ghost use Rattle.xrf_history.specs.Looking.{change};
 ghost use Rattle.xrf_history.specs.Rows.{lines_issued};
-ghost use Rattle.xrf_standby.specs.Standing.{Stands};
+ghost use Rattle.xrf_standby.specs.Alternate.{Stands};
 
-use crate::standby::Standby;
+use crate::alternate::Alternate;
 use xrf_base::Tick;
 use xrf_cebt::Cebt;
 use xrf_job::Stage;
 
-impl Standby {
+impl Alternate {
     /// The operator said go, or to go on waiting.
     pub(crate) fn replied(&mut self, go: bool, at: Tick)
         requires { (h : List Event) × Stands self.old h × (change h ≤ at) }

@@ -6,9 +6,9 @@ ghost use Rattle.xrf_history.specs.Holding.{is_owner, is_waiting};
 ghost use Rattle.xrf_history.specs.Reserving.{start_in, is_through_decision, start_due};
 ghost use Rattle.xrf_history.specs.Rows.{alternate_starts, alternate_tracks, boundary};
 ghost use Rattle.xrf_standby.specs.Dues.{act_of, Begins};
-ghost use Rattle.xrf_standby.specs.Standing.{Stands};
+ghost use Rattle.xrf_standby.specs.Alternate.{Stands};
 
-use crate::standby::Standby;
+use crate::alternate::Alternate;
 use xrf_cavm::{Decided, Decision, Waiting};
 use xrf_ctl::{Cause, Signal};
 use xrf_history::{EndWhy, Want};
@@ -44,7 +44,7 @@ impl Due {
     }
 }
 
-impl Standby {
+impl Alternate {
     /// What is due at a boundary.
     pub(crate) fn due(&self) -> Due
         requires { (h : List Event) × Stands self.now h }

@@ -4,13 +4,13 @@ ghost use Rattle.std.specs.Prelude.{◌≡◌, ℕ, ◌<◌, ◌∷◌, List, So
 ghost use Rattle.xrf_history.specs.declared.want.Want.{Want as Act};
 ghost use Rattle.xrf_history.specs.Events.{Event, MessageRead, ActFailed};
 ghost use Rattle.xrf_history.specs.Holding.{is_owner};
-ghost use Rattle.xrf_standby.specs.Standing.{Stands};
+ghost use Rattle.xrf_standby.specs.Alternate.{Stands};
 
-use crate::standby::Standby;
+use crate::alternate::Alternate;
 use xrf_history::EndWhy;
 use xrf_job::Stage;
 
-impl Standby {
+impl Alternate {
     /// It read a slot for the message that it takes next.
     #[tactic(auto, using(xrf_job::proofs::Counts::counts))]
     pub(crate) fn slot_read(&mut self, slot: &[u8; 64])

@@ -7,9 +7,9 @@ ghost use Rattle.xrf_history.specs.Holding.{number, is_owner};
 ghost use Rattle.xrf_history.specs.Reserving.{purpose, purpose_now, abandons, has_abandoned};
 ghost use Rattle.xrf_job.specs.declared.stage.Stage.{Stage as At};
 ghost use Rattle.xrf_job.specs.Stages.{purpose_of};
-ghost use Rattle.xrf_standby.specs.Standing.{Stands};
+ghost use Rattle.xrf_standby.specs.Alternate.{Stands};
 
-use crate::standby::Standby;
+use crate::alternate::Alternate;
 use xrf_base::Inc;
 use xrf_cavm::{Known, start_takeover};
 use xrf_ctl::Control;
@@ -26,7 +26,7 @@ fn names_owner(control: &Control, inc: Inc) -> bool
     }
 }
 
-impl Standby {
+impl Alternate {
     // what it reserves the control data set for
     #[tactic(auto, using(xrf_active::proofs::Alternates::started_standby))]
     fn purpose_now(&self) -> Purpose

@@ -9,9 +9,9 @@ ghost use Rattle.xrf_history.specs.Reserving.{end_in, is_start};
 ghost use Rattle.xrf_history.specs.Deciding.{is_ask, cause};
 ghost use Rattle.xrf_history.specs.Rows.{rounds, signal_of, lets_read};
 ghost use Rattle.xrf_active.specs.Promoting.{IsNoOwners};
-ghost use Rattle.xrf_standby.specs.Standing.{Stands};
+ghost use Rattle.xrf_standby.specs.Alternate.{Stands};
 
-use crate::standby::Standby;
+use crate::alternate::Alternate;
 use xrf_base::Tick;
 use xrf_cavm::{Decided, Decision, Known, Waiting, Why, decide, decide_waiting};
 use xrf_ctl::{Control, Signal};
@@ -58,7 +58,7 @@ fn end_in(decided: Decided) -> Option<EndWhy>
     }
 }
 
-impl Standby {
+impl Alternate {
     /// It gave the signal of a round beside the control record.
     #[tactic(auto, using(xrf_job::proofs::Counts::counts))]
     pub(crate) fn signalled1(&mut self, signal: &Signal)

@@ -1,19 +1,15 @@
-//! The job of an alternate.
+//! The job of a region that was started as standby.
 
-ghost use Rattle.std.specs.Prelude.{◌≡◌, [], ◌∷◌, List, Some, None, true, false};
-ghost use Rattle.xrf_history.specs.Events.{Event, StartedStandby, Ticked};
-ghost use Rattle.xrf_history.specs.Holding.{number, is_owner, is_let_through, is_waiting};
-ghost use Rattle.xrf_history.specs.Terminals.{table};
-ghost use Rattle.xrf_history.specs.Reserving.{last_decision, is_leaving, is_starting};
-ghost use Rattle.xrf_history.specs.Deciding.{takeovr, surveillance, is_asked, has_go};
-ghost use Rattle.xrf_history.specs.Next.{next};
-ghost use Rattle.xrf_job.specs.Rooms.{AreFor};
-ghost use Rattle.xrf_standby.specs.Standing.{Stands};
+ghost use Rattle.std.specs.Prelude.{◌≡◌, false};
+ghost use Rattle.xrf_standby.specs.Roles.{is_moving};
 
-use xrf_base::{Inc, Takeovr};
-use xrf_cavm::{Decided, Mode};
-use xrf_history::{EndWhy, Settings, Want};
-use xrf_job::{Common, Purpose, Rooms};
+use crate::alternate::Alternate;
+use crate::role::Role;
+use xrf_active::Active;
+use xrf_base::{Inc, ItemAnswer, Takeovr};
+use xrf_cavm::Decided;
+use xrf_history::{Answer, Settings, Want};
+use xrf_job::Rooms;
 use xrf_terms::TermTable;
 
 /// The job of a region that signs on as standby, tracks the active, and takes over: a machine that
@@ -21,55 +17,35 @@ use xrf_terms::TermTable;
 #[derive(Drop)]
 pub struct Standby {
     pub(crate) settings: Settings,
-    pub(crate) common: Common,
-    pub(crate) rooms: Rooms,
-    // what it goes by while it tracks the active
-    pub(crate) mode: Mode,
-    // the last decision, where no RESERVE follows it
-    pub(crate) open_decision: Option<Decided>,
-    // why it leaves, and whether its start was abandoned
-    pub(crate) leaves: Option<EndWhy>,
-    pub(crate) has_abandoned: bool,
-    // whether it is about to write its start, has written it, and was let through
-    pub(crate) is_starting: bool,
-    pub(crate) has_started: bool,
-    pub(crate) is_through: bool,
-    // the lines of the command list that it has issued
-    pub(crate) lines: u16,
-    // whether messages are to be read
-    pub(crate) is_reading: bool,
+    pub(crate) role: Role,
+    ghost there: { is_moving role ≡ false },
 }
 
 impl Standby {
+    ghost use Rattle.std.specs.Prelude.{[], ◌∷◌, List, true};
+    ghost use Rattle.xrf_history.specs.Answers.{event};
+    ghost use Rattle.xrf_history.specs.Events.{Event, StartedStandby};
+    ghost use Rattle.xrf_history.specs.Holding.{number, is_let_through, is_waiting};
+    ghost use Rattle.xrf_history.specs.Terminals.{table};
+    ghost use Rattle.xrf_history.specs.Reserving.{last_decision, is_leaving, is_starting};
+    ghost use Rattle.xrf_history.specs.Deciding.{takeovr, surveillance, is_asked, has_go};
+    ghost use Rattle.xrf_history.specs.Next.{next};
+    ghost use Rattle.xrf_history.specs.Working.{item_answer};
+    ghost use Rattle.xrf_job.specs.Rooms.{AreFor};
+    ghost use Rattle.xrf_active.specs.Standing.{Stands as IsActive};
+    ghost use Rattle.xrf_standby.specs.Standing.{Stands};
+    ghost use Rattle.xrf_standby.specs.Taking.{CanTake};
+
     /// A job that is started to sign on as standby, in rooms that were made for its limits. It empties
     /// them.
-    pub fn start(mut rooms: Rooms, settings: &Settings) -> Standby
+    pub fn start(rooms: Rooms, settings: &Settings) -> Standby
         requires { AreFor rooms settings.now.limits }
         ensures settings { result.settings ≡ settings.now }
         ensures stands { Stands result (StartedStandby ∷ []) }
     {
-        rooms.clear();
         Standby {
             settings: *settings,
-            common: Common::start(Purpose::SignOnActive),
-            rooms,
-            mode: Mode {
-                takeovr: settings.takeovr,
-                adi: settings.adi,
-                surveillance: true,
-                commanded: false,
-                shutdown: false,
-                asked: false,
-                go: false,
-            },
-            open_decision: None,
-            leaves: None,
-            has_abandoned: false,
-            is_starting: false,
-            has_started: false,
-            is_through: false,
-            lines: 0,
-            is_reading: false,
+            role: Role::Alternate(Alternate::start(rooms, settings)),
         }
     }
 
@@ -78,102 +54,160 @@ impl Standby {
         requires { (h : List Event) × Stands self.now h }
         ensures { (h : List Event) → Stands self.now h → result ≡ next self.now.settings h }
     {
-        match self.common.stage.act() {
-            Some(act) => act,
-            None => self.due().act(),
+        match &self.role {
+            Role::Alternate(job) => job.want(),
+            Role::LetThrough(job) => job.owner.want(),
+            Role::Moving => unreachable!(),
         }
+    }
+
+    /// Takes an answer, and gives that of the item that it ends: as an alternate it takes none.
+    pub fn take(&mut self, answer: &Answer) -> Option<ItemAnswer>
+        requires { (h : List Event) × CanTake self.old h answer.now }
+        ensures settings { self.new.settings ≡ self.old.settings }
+        ensures stands { (h : List Event) → CanTake self.old h answer.now → Stands self.new (event self.old.settings h answer.now ∷ h) }
+        ensures answer { (h : List Event) → CanTake self.old h answer.now → result ≡ item_answer self.old.settings (event self.old.settings h answer.now ∷ h) }
+    {
+        self.role.take(answer)
     }
 
     /// Its incarnation, 0 before it is granted.
     pub fn inc(&self) -> Inc
         ensures { (h : List Event) → Stands self.now h → result ≡ number h }
     {
-        self.common.inc
+        match &self.role {
+            Role::Alternate(job) => job.inc(),
+            Role::LetThrough(job) => job.owner.inc(),
+            Role::Moving => unreachable!(),
+        }
     }
 
     /// The terminals that it was told of.
     pub fn table(&self) -> &TermTable
         ensures { (h : List Event) → Stands self.now h → result.now ≡ table self.now.settings h }
     {
-        &self.rooms.table
+        match &self.role {
+            Role::Alternate(job) => job.table(),
+            Role::LetThrough(job) => job.owner.table(),
+            Role::Moving => unreachable!(),
+        }
     }
 
     /// Its last decision, none before the first.
     pub fn decided(&self) -> Option<Decided>
         ensures { (h : List Event) → Stands self.now h → result ≡ last_decision h }
     {
-        self.common.decided
+        match &self.role {
+            Role::Alternate(job) => job.decided(),
+            Role::LetThrough(job) => job.owner.decided(),
+            Role::Moving => unreachable!(),
+        }
     }
 
     /// What it may do by itself when it misses the active.
     pub fn takeovr(&self) -> Takeovr
         ensures { (h : List Event) → Stands self.now h → result ≡ takeovr self.now.settings h }
     {
-        self.mode.takeovr
+        match &self.role {
+            Role::Alternate(job) => job.takeovr(),
+            Role::LetThrough(job) => job.mode.takeovr,
+            Role::Moving => unreachable!(),
+        }
     }
 
     /// Whether the active's signal is watched.
     pub fn surveillance(&self) -> bool
         ensures { (h : List Event) → Stands self.now h → result ≡ surveillance h }
     {
-        self.mode.surveillance
+        match &self.role {
+            Role::Alternate(job) => job.surveillance(),
+            Role::LetThrough(job) => job.mode.surveillance,
+            Role::Moving => unreachable!(),
+        }
     }
 
     /// It has started its takeover, and waits until it is let through.
     pub fn is_waiting(&self) -> bool
         ensures { (h : List Event) → Stands self.now h → result ≡ is_waiting h }
     {
-        self.common.inc > 0 && !self.is_through && self.has_started
+        match &self.role {
+            Role::Alternate(job) => job.is_waiting(),
+            _ => false,
+        }
     }
 
     /// It leaves, or its start was abandoned.
     pub fn is_leaving(&self) -> bool
         ensures { (h : List Event) → Stands self.now h → result ≡ is_leaving h }
     {
-        self.leaves.is_some() || self.has_abandoned
+        match &self.role {
+            Role::Alternate(job) => job.is_leaving(),
+            Role::LetThrough(job) => job.is_leaving,
+            Role::Moving => unreachable!(),
+        }
     }
 
     /// It decided to start its takeover, and has not written the start.
     pub fn is_starting(&self) -> bool
         ensures { (h : List Event) → Stands self.now h → result ≡ is_starting h }
     {
-        self.is_starting
+        match &self.role {
+            Role::Alternate(job) => job.is_starting(),
+            _ => false,
+        }
     }
 
     /// The operator was asked, and has not said to go on waiting.
     pub fn is_asked(&self) -> bool
         ensures { (h : List Event) → Stands self.now h → result ≡ is_asked self.now.settings h }
     {
-        self.mode.asked
+        match &self.role {
+            Role::Alternate(job) => job.is_asked(),
+            Role::LetThrough(job) => job.mode.asked,
+            Role::Moving => unreachable!(),
+        }
     }
 
     /// The operator said go.
     pub fn has_go(&self) -> bool
         ensures { (h : List Event) → Stands self.now h → result ≡ has_go self.now.settings h }
     {
-        self.mode.go
+        match &self.role {
+            Role::Alternate(job) => job.has_go(),
+            Role::LetThrough(job) => job.mode.go,
+            Role::Moving => unreachable!(),
+        }
     }
 
-    /// It was let through: it owns the data sets, and is to be promoted.
-    #[tactic(auto, using(xrf_active::proofs::Alternates::started_standby))]
+    /// It was let through: it owns the data sets.
     pub fn is_through(&self) -> bool
         ensures { (h : List Event) → Stands self.now h → result ≡ is_let_through h }
     {
-        self.is_through
+        matches!(self.role, Role::LetThrough(_))
+    }
+
+    /// The job goes on as that of an owner: it drains the messages that are left, and then restarts.
+    pub fn promote(self) -> Active
+        requires { (h : List Event) × Stands self h × (is_let_through h ≡ true) }
+        ensures settings { result.settings ≡ self.settings }
+        ensures stands { (h : List Event) → Stands self h → is_let_through h ≡ true → IsActive result h }
+    {
+        let Standby { role, .. } = self;
+        match role {
+            Role::LetThrough(job) => job.owner,
+            _ => unreachable!(),
+        }
     }
 
     /// Gives back the memory that it works in.
     pub fn into_rooms(self) -> Rooms
         ensures { (h : List Event) → Stands self h → AreFor result self.settings.limits }
     {
-        self.rooms
-    }
-
-    /// A tick has passed.
-    pub(crate) fn ticked(&mut self)
-        ensures settings { self.new.settings ≡ self.old.settings }
-        ensures stands { (h : List Event) → Stands self.old h → is_owner h ≡ false → Stands self.new (Ticked ∷ h) }
-    {
-        self.common.ticked();
+        let Standby { role, .. } = self;
+        match role {
+            Role::Alternate(job) => job.into_rooms(),
+            Role::LetThrough(job) => job.owner.into_rooms(),
+            Role::Moving => unreachable!(),
+        }
     }
 }

@@ -9,23 +9,23 @@ ghost use Rattle.xrf_history.specs.Answers.{is_plain, fits, made, event};
 ghost use Rattle.xrf_history.specs.Working.{item_answer};
 ghost use Rattle.xrf_history.specs.Next.{next};
 ghost use Rattle.xrf_job.specs.declared.stage.Stage.{Stage as At};
-ghost use Rattle.xrf_standby.specs.Standing.{Stands};
-ghost use Rattle.xrf_standby.specs.Taking.{CanTake};
+ghost use Rattle.xrf_active.specs.Taking.{MayBeHanded};
+ghost use Rattle.xrf_standby.specs.Alternate.{Stands};
 
+use crate::alternate::Alternate;
 use crate::due::Due;
-use crate::standby::Standby;
 use xrf_base::{ItemAnswer, Tick};
 use xrf_ctl::{Control, Signal};
 use xrf_history::Answer;
 use xrf_job::Stage;
 
-impl Standby {
+impl Alternate {
     /// Takes an answer. It ends no item, since an alternate takes none.
-    pub fn take(&mut self, answer: &Answer) -> Option<ItemAnswer>
-        requires { (h : List Event) × CanTake self.old h answer.now }
+    pub(crate) fn take(&mut self, answer: &Answer) -> Option<ItemAnswer>
+        requires { (h : List Event) × Stands self.old h × (is_owner h ≡ false) × MayBeHanded self.old.settings h answer.now }
         ensures settings { self.new.settings ≡ self.old.settings }
-        ensures stands { (h : List Event) → CanTake self.old h answer.now → Stands self.new (event self.old.settings h answer.now ∷ h) }
-        ensures answer { (h : List Event) → CanTake self.old h answer.now → result ≡ item_answer self.old.settings (event self.old.settings h answer.now ∷ h) }
+        ensures stands { (h : List Event) → Stands self.old h → is_owner h ≡ false → MayBeHanded self.old.settings h answer.now → Stands self.new (event self.old.settings h answer.now ∷ h) }
+        ensures answer { (h : List Event) → Stands self.old h → is_owner h ≡ false → MayBeHanded self.old.settings h answer.now → result ≡ item_answer self.old.settings (event self.old.settings h answer.now ∷ h) }
     {
         self.handed(answer);
         None
@@ -33,9 +33,9 @@ impl Standby {
 
     // an answer is handed
     fn handed(&mut self, answer: &Answer)
-        requires { (h : List Event) × CanTake self.old h answer.now }
+        requires { (h : List Event) × Stands self.old h × (is_owner h ≡ false) × MayBeHanded self.old.settings h answer.now }
         ensures settings { self.new.settings ≡ self.old.settings }
-        ensures stands { (h : List Event) → CanTake self.old h answer.now → Stands self.new (event self.old.settings h answer.now ∷ h) }
+        ensures stands { (h : List Event) → Stands self.old h → is_owner h ≡ false → MayBeHanded self.old.settings h answer.now → Stands self.new (event self.old.settings h answer.now ∷ h) }
     {
         match answer {
             Answer::Tick(_) => self.ticked(),

@@ -3,7 +3,7 @@ use Rattle.std.proofs.Common.{◌≡◌, ◌≢◌, ℕ, suc, ◌+◌, ◌≤◌
 use Rattle.std.specs.List.{slice_split, onto_first, position, position_or_len}
 use Rattle.std.proofs.lemmas.List.Sums.{prefix_len-le-length}
 use Rattle.xrf_text.proofs.Places.{filled_from, unwrap_or-position}
-use Rattle.xrf_text.specs.Text.{words, is_blank, is_filled}
+use Rattle.xrf_text.specs.Text.{are_some, words, is_blank, is_filled}
 
 -- The first part of a line reaches to its first blank, and the words behind it are those of the rest.
 pub record FirstPart (line : List ℕ) : Type 0 where
@@ -50,6 +50,18 @@ first_word (x ∷ xs) some letter = by (is_blank x) refl
     by false e =
         let f = letter_first x xs e (first_part xs) in
         ap (filter is_filled) f.split ∙ kept _ f.others (rw e (rw one_more refl)) ∙ ap (λ (more : List (List ℕ)). take (position_or_len is_blank (x ∷ xs)) (x ∷ xs) ∷ more) f.rest
+
+not_none : (n : ℕ) → not (suc n == 0) ≡ true
+not_none n = by (suc n == 0) refl
+  where
+    by : (none : Bool) → (suc n == 0) ≡ none → not none ≡ true
+    by true e = let none = eqb-true (suc n) 0 e in cc
+    by false e = refl
+
+-- A line is from its first word on, so it has a word exactly where it has a byte.
+pub word_at : (line rest : List ℕ) → words rest ≡ words line → ((more : List ℕ) → rest ≢ 32 ∷ more) → are_some (words line) ≡ not (length rest == 0)
+word_at line [] same letter = ap are_some (sym same)
+word_at line (x ∷ xs) same letter = ap are_some (sym same ∙ first_word (x ∷ xs) (λ (none : x ∷ xs ≡ []). cc) letter) ∙ sym (not_none (length xs))
 
 pub position_or_len-positive : (line : List ℕ) → line ≢ [] → ((rest : List ℕ) → line ≢ 32 ∷ rest) → 0 < position_or_len is_blank line
 position_or_len-positive [] some letter = absurd (some refl)

@@ -1,5 +1,5 @@
 -- The lines of a text, and the words of a line.
-use Rattle.std.specs.Prelude.{ℕ, Bool, true, false, ◌==◌, ◌&&◌, nat_le, ◌≢◌, List, [], ◌∷◌, filter}
+use Rattle.std.specs.Prelude.{ℕ, Bool, true, false, ◌==◌, ◌&&◌, not, nat_le, ◌≢◌, List, [], ◌∷◌, filter}
 use Rattle.std.specs.List.{slice_split, AllByRecursion}
 use Rattle.std.specs.Borrow.{Bor}
 
@@ -9,6 +9,10 @@ is_line_feed b = b == 10
 
 abbrev pub is_blank : ℕ → Bool
 is_blank b = b == 32
+
+-- a byte of a word
+abbrev pub is_letter : ℕ → Bool
+is_letter b = not (is_blank b)
 
 -- a byte from blank to `~`
 abbrev pub is_printable : ℕ → Bool
@@ -36,6 +40,11 @@ is_filled (b ∷ bs) = true
 -- The words of a line are what stands between blanks.
 abbrev pub words : List ℕ → List (List ℕ)
 words line = filter is_filled (slice_split is_blank line)
+
+-- whether there is a word
+abbrev pub are_some : List (List ℕ) → Bool
+are_some [] = false
+are_some (word ∷ more) = true
 
 -- A word has a byte, and no blank.
 pub record IsWord (word : List ℕ) : Type 0 where

@@ -6,7 +6,7 @@ mod scan;
 
 ghost use Rattle.std.specs.Prelude.{◌≡◌, ◌≤◌, ◌<◌, [], ◌∷◌, ◌≢◌, ℕ, List, length, MatchOption, IfSome};
 ghost use Rattle.std.specs.List.{join_with_byte, AllByRecursion};
-ghost use Rattle.xrf_text.specs.Text.{lines, words, IsWord};
+ghost use Rattle.xrf_text.specs.Text.{are_some, lines, words, IsWord};
 
 pub use line_words::LineWords;
 use scan::{first_blank, from_first_word};
@@ -23,6 +23,14 @@ pub fn split_word(line: &[u8]) -> Option<(&[u8], &[u8])>
     }
     let end = first_blank(rest).unwrap_or(rest.len());
     Some(rest.split_at(end))
+}
+
+/// Whether a line has a word.
+#[tactic(auto, using(crate::proofs::Words::word_at))]
+pub fn has_word(line: &[u8]) -> bool
+    ensures { result ≡ are_some (words line.now) }
+{
+    !from_first_word(line).is_empty()
 }
 
 /// The first line of a text without its line feed and what follows it, or none for the empty text.
@@ -59,6 +67,22 @@ mod tests {
         let (third, rest) = split_word(rest).ok_or("two words")?;
         assert_eq!(rt; third, b"AUTO".as_slice());
         assert!(rt; split_word(rest).is_none());
+        assert!(rt; !has_word(rest));
+        Ok(())
+    }
+
+    #[test]
+    fn many_blanks_are_passed_over(rt: HostRuntime) -> Result<(), Fail> {
+        let blanks = b"                                                                ";
+        for before in 0..=32 {
+            let mut line = Vec::new(rt.alloc());
+            line.extend_from_slice(&blanks[before..])?;
+            assert!(rt; !has_word(line.as_slice()));
+            line.extend_from_slice(b"END and so on, behind many blanks, for more than 32 bytes")?;
+            assert!(rt; has_word(line.as_slice()));
+            let (first, _) = split_word(line.as_slice()).ok_or("no word")?;
+            assert_eq!(rt; first, b"END".as_slice());
+        }
         Ok(())
     }
 

@@ -1,18 +1,18 @@
 //! The words of a line, split once.
 
-ghost use Rattle.std.specs.Prelude.{◌≡◌, IfSome};
+ghost use Rattle.std.specs.Prelude.{◌≡◌, [], IsTrue};
 ghost use Rattle.xrf_text.specs.Text.{words, texts};
 
 use crate::split_word;
 use std::marker::Model;
 
 /// How many words are held at most.
-const MOST: usize = 16;
+const MOST: usize = 8;
 
-/// The words of a line that has at most 16. Contracts see the list of the words.
+/// The words of a line that has at most 8. Contracts see the list of the words.
 #[derive(Drop)]
 pub struct LineWords<'a> {
-    words: [&'a [u8]; 16],
+    words: [&'a [u8]; 8],
     count: usize,
 }
 
@@ -24,27 +24,38 @@ impl<'a> Model for LineWords<'a> {
 
     ghost view = { λ w. texts (take w.count w.words) };
 
-    ghost invariant = { λ w. w.count ≤ 16 };
+    ghost invariant = { λ w. w.count ≤ 8 };
 }
 
 impl<'a> LineWords<'a> {
-    /// The words of a line; none where there are more than 16.
-    #[inline]
-    pub fn split(line: &'a [u8]) -> Option<LineWords<'a>>
-        ensures { IfSome result (λ found. found ≡ words line.now) }
+    /// No words.
+    #[inline(always)]
+    pub fn new() -> LineWords<'a>
+        ensures { result ≡ [] }
     {
-        let mut words: [&'a [u8]; 16] = [&[]; 16];
+        LineWords {
+            words: [&[]; 8],
+            count: 0,
+        }
+    }
+
+    /// Holds the words of a line in place of those before. False where there are more than 8: then
+    /// it is not said which are held.
+    pub fn split(&mut self, line: &'a [u8]) -> bool
+        ensures { IsTrue result → self.new ≡ words line.now }
+    {
         let mut count = 0;
         let mut rest = line;
         while let Some((word, behind)) = split_word(rest) {
             if count == MOST {
-                return None;
+                return false;
             }
-            words[count] = word;
+            self.words[count] = word;
             count += 1;
             rest = behind;
         }
-        Some(LineWords { words, count })
+        self.count = count;
+        true
     }
 
     /// The words.

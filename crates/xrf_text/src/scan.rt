@@ -3,7 +3,7 @@
 ghost use Rattle.std.specs.Prelude.{if◌then◌else◌, ◌==◌, ◌≡◌, ◌≤◌, ◌≢◌, ◌+◌, ◌∷◌, ℕ, List, true, not, nat_lt, IsTrue, length, take, drop};
 ghost use Rattle.std.specs.Int.{w64, trailing_zeros};
 ghost use Rattle.std.specs.List.{list_all, position, position_or_len};
-ghost use Rattle.xrf_text.specs.Text.{words, is_blank, is_line_feed, is_printable};
+ghost use Rattle.xrf_text.specs.Text.{words, is_blank, is_letter, is_line_feed, is_printable};
 
 use std::simd::prelude::*;
 
@@ -41,6 +41,15 @@ fn before_blank(block: u8x8) -> usize
     ensures inside { result ≤ 8 }
 {
     first_set(block.simd_eq(u8x8::splat(b' ')).to_bitmask(), SHORT)
+}
+
+/// How many bytes of a block stand before its first letter: all 32 where it has none.
+#[inline]
+fn before_letter(block: u8x32) -> usize
+    ensures place { result ≡ position_or_len is_letter block }
+    ensures inside { result ≤ 32 }
+{
+    first_set(block.simd_ne(u8x32::splat(b' ')).to_bitmask(), BLOCK)
 }
 
 /// Whether all bytes of a block are blanks.
@@ -142,8 +151,17 @@ pub(crate) fn first_blank(line: &[u8]) -> Option<usize>
     None
 }
 
-/// The line from its first word on.
-pub(crate) fn from_first_word(line: &[u8]) -> &[u8]
+/// What stands behind some bytes.
+fn behind(text: &[u8], count: usize) -> &[u8]
+    requires { count ≤ length text.now }
+    ensures behind { result.now ≡ drop count text.now }
+    ensures shorter { length result.now + count ≡ length text.now }
+{
+    &text[count..]
+}
+
+/// The line from its first word on, where many blanks may stand before it.
+fn behind_blanks(line: &[u8]) -> &[u8]
     ensures same { words result.now ≡ words line.now }
     ensures shorter { length result.now ≤ length line.now }
     ensures at_word { (rest : List ℕ) → result.now ≢ 32 ∷ rest }
@@ -152,8 +170,30 @@ pub(crate) fn from_first_word(line: &[u8]) -> &[u8]
     while rest.len() >= BLOCK && is_all_blank(block_at(rest, 0)) {
         rest = behind_block(rest);
     }
+    if rest.len() >= BLOCK {
+        let before = before_letter(block_at(rest, 0));
+        if before < BLOCK {
+            return behind(rest, before);
+        }
+    }
     while let [b' ', more @ ..] = rest {
         rest = more;
+    }
+    rest
+}
+
+/// The line from its first word on.
+pub(crate) fn from_first_word(line: &[u8]) -> &[u8]
+    ensures same { words result.now ≡ words line.now }
+    ensures shorter { length result.now ≤ length line.now }
+    ensures at_word { (rest : List ℕ) → result.now ≢ 32 ∷ rest }
+{
+    let [b' ', rest @ ..] = line else {
+        return line;
+    };
+    // most words have one blank before them
+    if let [b' ', ..] = rest {
+        return behind_blanks(rest);
     }
     rest
 }

@@ -8,7 +8,7 @@ use Rattle.xrf.proofs.live.lived.Goals as goal
 
 pub returns : goal.returns
 returns g c = λ bytes size reads.
-    let may : ExitAnswer → Type 0 = λ said. g.F.Fn.post c.args.exit.now.closure (AlternateLost, tt) said in
+    let may : ExitAnswer → Type 0 = λ answer. g.F.Fn.post c.args.exit.now.closure (AlternateLost, tt) answer in
     let s = c.args.scenario.now in
     let lived = c.in_ok-world.ensures in
     let choices = c.in_ok-world.choices.items in

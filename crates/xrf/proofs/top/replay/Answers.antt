@@ -1,7 +1,6 @@
 use Rattle.std.proofs.Common.{◌<◌, ℕ, List, Err, ap, subst}
 use Rattle.xrf_edge.specs.Ends.{came}
 use Rattle.xrf.specs.Made.{IsMade}
-use Rattle.xrf.specs.Answer.{End}
 use Rattle.xrf.specs.declared.refusal.Reason.TheVariants.{Grammar}
 use Rattle.xrf_grammar.specs.declared.reason.Reason.TheVariants.{TooLarge}
 use Rattle.xrf.proofs.AnswerLaws.{replayed, refused, too_large, if-some}
@@ -9,19 +8,19 @@ use Rattle.xrf.proofs.top.replay.Goals as goal
 
 pub returns-in-Ok : goal.returns-in-Ok
 returns-in-Ok g c =
-    let source : End = record { bytes = g.S.Source.left c.args.source.now; faults = g.S.Source.faults c.args.source.now } in
-    let source' : End = record { bytes = g.S.Source.left c.read_all.new.source; faults = g.S.Source.faults c.read_all.new.source } in
-    let sink : End = record { bytes = g.K.Sink.held c.args.sink.now; faults = g.K.Sink.faults c.args.sink.now } in
-    let sink' : End = record { bytes = g.K.Sink.held c.write_made.new.sink; faults = g.K.Sink.faults c.write_made.new.sink } in
+    let source = g.S.Source.end c.args.source.now in
+    let source' = g.S.Source.end c.read_all.new.source in
+    let sink = g.K.Sink.end c.args.sink.now in
+    let sink' = g.K.Sink.end c.write_made.new.sink in
     replayed source source' sink sink' c.in-Ok.text.items c.made_of.result c.write_made.result c.in-Ok.ensures.all
     (subst (λ (t : List ℕ). IsMade t c.made_of.result) c.deref.ensures.value c.made_of.ensures) c.write_made.ensures
 
 pub returns-in-Err-TooLarge : goal.returns-in-Err-TooLarge
 returns-in-Err-TooLarge g c =
-    let source : End = record { bytes = g.S.Source.left c.args.source.now; faults = g.S.Source.faults c.args.source.now } in
-    let source' : End = record { bytes = g.S.Source.left c.read_all.new.source; faults = g.S.Source.faults c.read_all.new.source } in
-    let sink : End = record { bytes = g.K.Sink.held c.args.sink.now; faults = g.K.Sink.faults c.args.sink.now } in
-    let sink' : End = record { bytes = g.K.Sink.held c.refuse.new.sink; faults = g.K.Sink.faults c.refuse.new.sink } in
+    let source = g.S.Source.end c.args.source.now in
+    let source' = g.S.Source.end c.read_all.new.source in
+    let sink = g.K.Sink.end c.args.sink.now in
+    let sink' = g.K.Sink.end c.refuse.new.sink in
     refused source source' sink sink' 0 (Grammar TooLarge) c.refuse.result
     (too_large source source' (if-some _ (λ (bytes : List ℕ). 4194304 < came source.bytes source'.bytes) source.bytes (λ bytes both. both.0 (ap Err c.in-Err-TooLarge.field-0-is)) c.in-Err-TooLarge.ensures.too_large))
     c.refuse.ensures

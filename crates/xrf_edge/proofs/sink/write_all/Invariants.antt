@@ -5,12 +5,11 @@ use Rattle.xrf_edge.proofs.sink.write_all.Given as goal
 -- the text up to here is written
 abbrev pub invariant-loop-written : goal.invariant-loop-written
 invariant-loop-written g l =
-    let held = g.K.Sink.held in
-    let faults = g.K.Sink.faults in
+    let end = g.K.Sink.end in
     record {
       within : l.written ≤ length l.text;
-      written : Appends (held l.fn.sink) (held l.sink) (take l.written l.text);
-      count : faults l.fn.sink ≤ faults l.sink;
+      written : Appends (end l.fn.sink).bytes (end l.sink).bytes (take l.written l.text);
+      count : (end l.fn.sink).faults ≤ (end l.sink).faults;
     }
 
 abbrev pub decreases-loop-written : goal.decreases-loop-written

@@ -5,12 +5,11 @@ use Rattle.xrf_edge.proofs.source.read_all.Given as goal
 -- the bytes so far were taken, and they are not too many
 abbrev pub invariant-loop-n : goal.invariant-loop-n
 invariant-loop-n g l =
-    let left = g.S.Source.left in
-    let faults = g.S.Source.faults in
+    let end = g.S.Source.end in
     record {
       allowed : length l.bytes.items ≤ l.max;
-      taken : Consumes (left l.fn.source) (left l.source) l.bytes.items;
-      count : faults l.fn.source ≤ faults l.source;
+      taken : Consumes (end l.fn.source).bytes (end l.source).bytes l.bytes.items;
+      count : (end l.fn.source).faults ≤ (end l.source).faults;
     }
 
 abbrev pub decreases-loop-n : goal.decreases-loop-n

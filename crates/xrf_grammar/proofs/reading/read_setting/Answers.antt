@@ -2,7 +2,7 @@ use Rattle.std.proofs.Common.{◌∙◌, ap, List, Ok}
 use Rattle.xrf_text.specs.Text.{words}
 use Rattle.xrf_grammar.specs.declared.form.Form.{Form}
 use Rattle.xrf_grammar.specs.Reading.{line_of}
-use Rattle.xrf_grammar.specs.Table.{settings_of, choices_table}
+use Rattle.xrf_grammar.specs.Table.{settings_of}
 use Rattle.xrf_grammar.proofs.FormLaws.{found_by_reading}
 use Rattle.xrf_grammar.proofs.ApartLaws.{no_setting}
 use Rattle.xrf_grammar.proofs.reading.read_setting.Goals as goal

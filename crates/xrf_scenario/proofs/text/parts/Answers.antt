@@ -1,8 +1,13 @@
-use Rattle.xrf_scenario.specs.Held.{said}
-use Rattle.xrf_scenario.proofs.HeldLaws.{scenario-held}
+use Rattle.std.proofs.Common.{refl, ◌∙◌, ap}
+use Rattle.xrf_scenario.proofs.HeldLaws.{choices-held, scenario-held}
+use Rattle.xrf_scenario.specs.Held.{held}
+use Rattle.xrf_scenario.specs.SoFar.{SoFar, is_whole}
 use Rattle.xrf_scenario.proofs.text.parts.Goals as goal
 
 pub new-scenario-requires : goal.new-scenario-requires
 new-scenario-requires c =
-    scenario-held (said c.args.reading) c.settled-settings.result c.in_ok-records.records.items c.deref.result.now c.settled-settings.ensures c.in_ok-records.ensures c.deref.ensures.value
-    c.requires.said c.requires.whole
+    scenario-held (held c.reading.inside) c.settled-settings.result c.in_ok-records.records.items c.deref.result.now c.settled-settings.ensures c.in_ok-records.ensures c.deref.ensures.value
+    c.reading.invariant (ap (λ (so : SoFar). is_whole so.section) c.reading.view_is ∙ c.requires)
+
+pub returns-clause-lines : goal.returns-clause-lines
+returns-clause-lines c = choices-held (held c.reading.inside) c.reading.inside.choices.items refl c.reading.invariant

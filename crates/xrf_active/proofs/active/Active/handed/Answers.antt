@@ -17,20 +17,20 @@ first_block_handed-requires c =
     let h = c.requires.can.0 in
     let can = c.requires.can.1 in
     let keys = c.in-Anchored.keys in
-    let fitting = subst (λ (a : Answer). may_take p h a ≡ true) c.in-Anchored.is can.fitting in
+    let fitting = subst (λ (a : Answer). may_take p h a ≡ true) c.in-Anchored.is can.handed.fitting in
     let lent : fits p h (next p h) (answer.Anchored c.bytes-in-Anchored.result.now keys) ≡ true =
     subst (λ (bytes : List ℕ). fits p h (next p h) (answer.Anchored bytes keys) ≡ true) (sym c.bytes-in-Anchored.ensures) fitting in
-    let small = subst (λ (a : Answer). HasSmallKeys a) c.in-Anchored.is can.small_keys in
-    (h, can.stands, can.few, lent, small.0, small.1)
+    let small = subst (λ (a : Answer). HasSmallKeys a) c.in-Anchored.is can.handed.small_keys in
+    (h, can.stands, can.handed.few, lent, small.0, small.1)
 
 pub returns-in-Anchored-clause-stands : goal.returns-in-Anchored-clause-stands
 returns-in-Anchored-clause-stands c = λ h can.
     let p = c.args.self.now.settings in
     let keys = c.in-Anchored.keys in
-    let fitting = subst (λ (a : Answer). may_take p h a ≡ true) c.in-Anchored.is can.fitting in
+    let fitting = subst (λ (a : Answer). may_take p h a ≡ true) c.in-Anchored.is can.handed.fitting in
     let lent : fits p h (next p h) (answer.Anchored c.bytes-in-Anchored.result.now keys) ≡ true =
     subst (λ (bytes : List ℕ). fits p h (next p h) (answer.Anchored bytes keys) ≡ true) (sym c.bytes-in-Anchored.ensures) fitting in
-    let small = subst (λ (a : Answer). HasSmallKeys a) c.in-Anchored.is can.small_keys in
+    let small = subst (λ (a : Answer). HasSmallKeys a) c.in-Anchored.is can.handed.small_keys in
     taken _ p h _ _ c.in-Anchored.is (subst (λ (bytes : List ℕ). Stands c.first_block_handed.new.self (FirstBlockRead bytes keys ∷ h)) c.bytes-in-Anchored.ensures
     (c.first_block_handed.ensures.stands h can.stands lent small.0 small.1))
 
@@ -42,5 +42,5 @@ returns-in-Gate-clause-answer c = λ h can.
 pub returns-in-Failed-clause-stands : goal.returns-in-Failed-clause-stands
 returns-in-Failed-clause-stands c = λ h can.
     let p = c.args.self.now.settings in
-    let fails = subst (λ (a : Answer). may_take p h a ≡ true) c.in-Failed.is can.fitting in
+    let fails = subst (λ (a : Answer). may_take p h a ≡ true) c.in-Failed.is can.handed.fitting in
     taken _ p h _ _ c.in-Failed.is (c.act_failed.ensures.stands h _ can.stands fails)

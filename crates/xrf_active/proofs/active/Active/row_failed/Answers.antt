@@ -1,4 +1,4 @@
-use Rattle.std.proofs.Common.{◌≡◌, ◌∙◌, sym, ap, subst, refl, false}
+use Rattle.std.proofs.Common.{◌∙◌, sym, ap, subst, refl, false}
 use Rattle.xrf_history.specs.declared.want.Want.{Want}
 use Rattle.xrf_history.specs.Next.{next, or_boundary}
 use Rattle.xrf_job.specs.Stages.{inside_of}

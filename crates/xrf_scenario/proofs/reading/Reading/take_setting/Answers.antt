@@ -1,33 +1,76 @@
-use Rattle.xrf_scenario.specs.Held.{said}
+use Rattle.std.proofs.Common.{ℕ, List, Option, ◌∙◌, ap, refl}
+use Rattle.xrf_base.specs.declared.items.Item.{Item}
+use Rattle.xrf_base.specs.declared.site.Site.{Site}
+use Rattle.xrf_base.specs.declared.site.Site.TheVariants.{A, B}
+use Rattle.xrf_clt.specs.Kept.{Kept}
+use Rattle.xrf_grammar.specs.declared.line.Line.TheVariants.{Record, Clt, Work, Plan, Choices}
+use Rattle.xrf_scenario.specs.Held.{held}
+use Rattle.xrf_scenario.specs.SoFar.{SoFar}
+use Rattle.xrf_scenario.specs.declared.section.Section.{Section}
+use Rattle.xrf_setup.specs.declared.choice.Choice.{Choice}
+use Rattle.xrf_text.specs.Text.{words}
+use Rattle.xrf_scenario.proofs.TakenLaws.{setting-stays, as-setting}
 use Rattle.xrf_scenario.proofs.reading.Reading.take_setting.Goals as goal
 
--- each setting is given once
-pub returns-in-Takeovr : goal.returns-in-Takeovr
-returns-in-Takeovr c = rw c.in-Takeovr.is (c.once.ensures (said c.args.self.now) (λ s. record c.args.self.now.given { takeovr = s }))
+-- what is said stays within its bounds
+pub invariant_of-self : goal.invariant_of-self
+invariant_of-self c =
+    setting-stays c.take_record.result _ _ _ (words c.args.text.now) c.args.line.now (Record c.in-Record.number c.in-Record.value) c.self.view_is c.in-Record.is c.requires.section c.requires.line c.self.invariant
+    (c.take_record.ensures (λ (records : List (Option (List ℕ))). record (held c.self.inside) { records = records }))
 
-pub returns-in-Adi : goal.returns-in-Adi
-returns-in-Adi c = rw c.in-Adi.is (c.once-in-Adi.ensures (said c.args.self.now) (λ s. record c.args.self.now.given { adi = s }))
+pub returns-in-Record : goal.returns-in-Record
+returns-in-Record c = λ number. rw (c.in-Record.is, ← c.self.view_is) (c.take_record.ensures (λ (records : List (Option (List ℕ))). record (held c.self.inside) { records = records }))
 
-pub returns-in-Pdi : goal.returns-in-Pdi
-returns-in-Pdi c = rw c.in-Pdi.is (c.once-in-Pdi.ensures (said c.args.self.now) (λ s. record c.args.self.now.given { pdi = s }))
+pub invariant_of-self-in-Clt : goal.invariant_of-self-in-Clt
+invariant_of-self-in-Clt c =
+    setting-stays c.take_clt.result _ _ _ (words c.args.text.now) c.args.line.now Clt c.self.view_is c.in-Clt.is c.requires.section c.requires.line c.self.invariant
+    (c.take_clt.ensures (λ (clt : List Kept). record (held c.self.inside) { clt = clt }))
 
-pub returns-in-Log : goal.returns-in-Log
-returns-in-Log c = rw c.in-Log.is (c.once-in-Log.ensures (said c.args.self.now) (λ s. record c.args.self.now.given { log = s }))
+pub returns-in-Clt : goal.returns-in-Clt
+returns-in-Clt c = λ number. rw (c.in-Clt.is, ← c.self.view_is) (c.take_clt.ensures (λ (clt : List Kept). record (held c.self.inside) { clt = clt }))
 
-pub returns-in-Ring : goal.returns-in-Ring
-returns-in-Ring c = rw c.in-Ring.is (c.once-in-Ring.ensures (said c.args.self.now) (λ s. record c.args.self.now.given { ring = s }))
+pub invariant_of-self-in-A : goal.invariant_of-self-in-A
+invariant_of-self-in-A c =
+    setting-stays c.push_within.result _ _ _ (words c.args.text.now) c.args.line.now (Work A c.in-Work.item) c.self.view_is (c.in-Work.is ∙ ap (λ (s : Site). Work s c.in-Work.item) c.in-A.is) c.requires.section c.requires.line c.self.invariant
+    (c.push_within.ensures (λ (items : List Item). record (held c.self.inside) { work_a = items }))
 
-pub returns-in-File : goal.returns-in-File
-returns-in-File c = rw c.in-File.is (c.once-in-File.ensures (said c.args.self.now) (λ s. record c.args.self.now.given { file = s }))
+pub returns-in-A : goal.returns-in-A
+returns-in-A c = λ number. rw (c.in-Work.is, c.in-A.is, ← c.self.view_is) (c.push_within.ensures (λ (items : List Item). record (held c.self.inside) { work_a = items }))
 
-pub returns-in-Pace : goal.returns-in-Pace
-returns-in-Pace c = rw c.in-Pace.is (c.once-in-Pace.ensures (said c.args.self.now) (λ s. record c.args.self.now.given { pace = s }))
+pub invariant_of-self-in-B : goal.invariant_of-self-in-B
+invariant_of-self-in-B c =
+    setting-stays c.push_within-in-B.result _ _ _ (words c.args.text.now) c.args.line.now (Work B c.in-Work.item) c.self.view_is (c.in-Work.is ∙ ap (λ (s : Site). Work s c.in-Work.item) c.in-B.is) c.requires.section c.requires.line c.self.invariant
+    (c.push_within-in-B.ensures (λ (items : List Item). record (held c.self.inside) { work_b = items }))
 
-pub returns-in-Ticks : goal.returns-in-Ticks
-returns-in-Ticks c = rw c.in-Ticks.is (c.once-in-Ticks.ensures (said c.args.self.now) (λ s. record c.args.self.now.given { ticks = s }))
+pub returns-in-B : goal.returns-in-B
+returns-in-B c = λ number. rw (c.in-Work.is, c.in-B.is, ← c.self.view_is) (c.push_within-in-B.ensures (λ (items : List Item). record (held c.self.inside) { work_b = items }))
 
-pub returns-in-Images : goal.returns-in-Images
-returns-in-Images c = rw c.in-Images.is (c.once-in-Images.ensures (said c.args.self.now) (λ s. record c.args.self.now.given { images = s }))
+pub invariant_of-self-in-Plan : goal.invariant_of-self-in-Plan
+invariant_of-self-in-Plan c =
+    setting-stays c.take_plan.result _ _ _ (words c.args.text.now) c.args.line.now (Plan c.in-Plan.tick c.in-Plan.choice) c.self.view_is c.in-Plan.is c.requires.section c.requires.line c.self.invariant
+    (c.take_plan.ensures (λ (plan : List (ℕ × Choice)). record (held c.self.inside) { plan = plan }))
 
-pub returns-in-Xrfsoff : goal.returns-in-Xrfsoff
-returns-in-Xrfsoff c = rw c.in-Xrfsoff.is (c.once-in-Xrfsoff.ensures (said c.args.self.now) (λ s. record c.args.self.now.given { force = s }))
+pub returns-in-Plan : goal.returns-in-Plan
+returns-in-Plan c = λ number. rw (c.in-Plan.is, ← c.self.view_is) (c.take_plan.ensures (λ (plan : List (ℕ × Choice)). record (held c.self.inside) { plan = plan }))
+
+pub invariant_of-self-in-Choices : goal.invariant_of-self-in-Choices
+invariant_of-self-in-Choices c =
+    setting-stays c.begin_choices.result _ _ _ (words c.args.text.now) c.args.line.now Choices c.self.view_is c.in-Choices.is c.requires.section c.requires.line c.self.invariant
+    (rw (c.deref.ensures.value, c.file_or_default-file.ensures) at c.begin_choices.ensures (λ (section : Section). record (held c.self.inside) { section = section }))
+
+pub returns-in-Choices : goal.returns-in-Choices
+returns-in-Choices c = λ number.
+    rw (c.in-Choices.is, ← c.self.view_is) (rw (c.deref.ensures.value, c.file_or_default-file.ensures) at c.begin_choices.ensures (λ (section : Section). record (held c.self.inside) { section = section }))
+
+pub invariant_of-self-in_default : goal.invariant_of-self-in_default
+invariant_of-self-in_default c =
+    let so : SoFar = held c.self.inside in
+    let is = as-setting 0 so _ (words c.args.text.now) c.args.line.now c.requires.line c.in_default.not-Record c.in_default.not-Clt c.in_default.not-Work c.in_default.not-Plan c.in_default.not-Choices in
+    setting-stays c.take.result _ _ _ (words c.args.text.now) c.args.line.now c.args.line.now c.self.view_is refl c.requires.section c.requires.line c.self.invariant
+    (rw is (c.take.ensures so))
+
+pub returns-in_default : goal.returns-in_default
+returns-in_default c = λ number.
+    let so : SoFar = held c.self.inside in
+    let is = as-setting number so _ (words c.args.text.now) c.args.line.now c.requires.line c.in_default.not-Record c.in_default.not-Clt c.in_default.not-Work c.in_default.not-Plan c.in_default.not-Choices in
+    rw (← c.self.view_is, is) (c.take.ensures so)

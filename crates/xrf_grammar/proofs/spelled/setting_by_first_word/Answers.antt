@@ -1,9 +1,0 @@
-use Rattle.std.proofs.Common.{◌∙◌}
-use Rattle.xrf_text.specs.Text.{words, texts}
-use Rattle.xrf_grammar.proofs.SpelledLaws.{setting_read}
-use Rattle.xrf_grammar.proofs.spelled.setting_by_first_word.Goals as goal
-
-pub returns : goal.returns
-returns c =
-    setting_read c.args.format c.settings_beginning-forms.result.now (words c.args.line.now) (texts c.as_slice-2.result.now) c.spelled.result c.settings_beginning-forms.ensures
-    (c.as_slice-2.ensures ∙ c.in_ok-words.ensures) c.spelled.ensures

@@ -1,0 +1,154 @@
+//! The summary of a generated run.
+
+ghost use Rattle.std.specs.Prelude.{◌≡◌, ◌++◌, ◌&&◌, OnOk, IfOk, reverse};
+ghost use Rattle.xrf_cavm.specs.Record.{inc_of_owner};
+ghost use Rattle.xrf_report.specs.Summary.{stops, throughs, counted_line, made_lines, owner_lines, unit_lines, head_line, summary_text};
+ghost use Rattle.xrf_trace.specs.Landing.{is_stop, lands};
+ghost use Rattle.xrf_trace.specs.Throughs.{changes_owner};
+ghost use Rattle.xrf_trace.specs.Devices.{control_after};
+
+use Piece::{Number, Text};
+use std::alloc::{AllocError, Global};
+use xrf_base::Inc;
+use xrf_ctl::{Control, Owner};
+use xrf_grammar::writing::{Piece, put};
+use xrf_setup::Landing;
+use xrf_trace::{Act, Entry, Land};
+use xrf_world::World;
+
+fn is_stop(land: &Land) -> bool
+    ensures { result ≡ is_stop land.now }
+{
+    matches!(land, Land::Stop(_))
+}
+
+fn lands(land: &Land) -> bool
+    ensures { result ≡ lands land.now }
+{
+    match land {
+        Land::Full => true,
+        Land::Lost => false,
+        Land::Stop(landing) => matches!(landing, Landing::All),
+        Land::Fail(landing) => matches!(landing, Landing::All),
+    }
+}
+
+fn count_stops(journal: &[Entry]) -> u64
+    ensures { result ≡ stops (reverse journal.now) }
+{
+    let mut count = 0u64;
+    for entry in journal {
+        if is_stop(&entry.land) {
+            count += 1;
+        }
+    }
+    count
+}
+
+fn inc_of(owner: Option<Owner>) -> Inc
+    ensures { result ≡ inc_of_owner owner }
+{
+    match owner {
+        Some(owner) => owner.inc,
+        None => 0,
+    }
+}
+
+fn changes_owner(before: &Control, act: &Act) -> bool
+    ensures { result ≡ changes_owner before.now act.now }
+{
+    match act {
+        Act::CtlWrite(written) => inc_of(written.owner()) != inc_of(before.owner()),
+        _ => false,
+    }
+}
+
+// the control record as an entry leaves it
+fn land_control(control: &mut Control, entry: &Entry)
+    ensures { control.new ≡ control_after entry.now.act entry.now.land control.old }
+{
+    if let Act::CtlWrite(written) = &entry.act {
+        if lands(&entry.land) {
+            *control = *written;
+        }
+    }
+}
+
+fn is_through(before: &Control, entry: &Entry) -> bool
+    ensures { result ≡ (lands entry.now.land && changes_owner before.now entry.now.act) }
+{
+    lands(&entry.land) && changes_owner(before, &entry.act)
+}
+
+fn count_throughs(journal: &[Entry]) -> u64
+    ensures { result ≡ throughs (reverse journal.now) }
+{
+    let mut count = 0u64;
+    let mut control = Control::empty();
+    for entry in journal {
+        if is_through(&control, entry) {
+            count += 1;
+        }
+        land_control(&mut control, entry);
+    }
+    count
+}
+
+fn put_counted(alloc: Global, out: &mut Vec<u8>, word: &[u8], number: u64) -> Result<(), AllocError>
+    ensures { OnOk result (out.new.items ≡ out.old.items ++ counted_line word.now number) }
+{
+    put(alloc, out, &[Text(word), Number(number), Text(b"\n")])
+}
+
+fn put_made_lines(alloc: Global, out: &mut Vec<u8>, world: &World) -> Result<(), AllocError>
+    ensures { OnOk result (out.new.items ≡ out.old.items ++ made_lines world.now.trace) }
+{
+    let journal = world.journal();
+    put_counted(alloc, out, b"CHOICES ", journal.len() as u64)?;
+    put_counted(alloc, out, b"TICKS ", world.now() as u64)?;
+    put_counted(alloc, out, b"STOPS ", count_stops(journal))
+}
+
+fn put_owner_lines(alloc: Global, out: &mut Vec<u8>, world: &World) -> Result<(), AllocError>
+    ensures { OnOk result (out.new.items ≡ out.old.items ++ owner_lines world.now.trace) }
+{
+    put_counted(alloc, out, b"INCARNATIONS ", world.control().last() as u64)?;
+    put_counted(alloc, out, b"THROUGHS ", count_throughs(world.journal()))
+}
+
+fn put_unit_lines(alloc: Global, out: &mut Vec<u8>, world: &World) -> Result<(), AllocError>
+    ensures { OnOk result (out.new.items ≡ out.old.items ++ unit_lines world.now.trace) }
+{
+    let log = world.log_counts();
+    put_counted(alloc, out, b"COMMITTED ", log.committed as u64)?;
+    put_counted(alloc, out, b"FLIGHT ", log.flight as u64)
+}
+
+fn put_head(alloc: Global, out: &mut Vec<u8>, seed: u64, turns: u32) -> Result<(), AllocError>
+    ensures { OnOk result (out.new.items ≡ out.old.items ++ head_line seed turns) }
+{
+    put(
+        alloc,
+        out,
+        &[
+            Text(b"DRIVE "),
+            Number(seed),
+            Text(b" "),
+            Number(turns as u64),
+            Text(b"\n"),
+        ],
+    )
+}
+
+/// The nine lines that a generated run is told in, by the seed and the number of turns that it was drawn with.
+pub fn summary(alloc: Global, seed: u64, turns: u32, world: &World) -> Result<Vec<u8>, AllocError>
+    ensures { IfOk result (λ text. text.items ≡ summary_text seed turns world.now.trace) }
+{
+    let mut out = Vec::new(alloc);
+    put_head(alloc, &mut out, seed, turns)?;
+    put_made_lines(alloc, &mut out, world)?;
+    put_owner_lines(alloc, &mut out, world)?;
+    put_unit_lines(alloc, &mut out, world)?;
+    put(alloc, &mut out, &[Text(b"DONE\n")])?;
+    Ok(out)
+}

@@ -1,0 +1,15 @@
+use Rattle.std.proofs.Common.{◌≡◌, ◌≤◌, length}
+use Rattle.xrf_text.specs.Text.{words}
+use Rattle.xrf_text.proofs.scan.behind_blanks.Given as goal
+
+abbrev pub invariant-loop-rest : goal.invariant-loop-rest
+invariant-loop-rest l = (words l.rest ≡ words l.line) × (length l.rest ≤ length l.line)
+
+abbrev pub decreases-loop-rest : goal.decreases-loop-rest
+decreases-loop-rest l = length l.rest
+
+abbrev pub invariant-loop-rest-2 : goal.invariant-loop-rest-2
+invariant-loop-rest-2 l = (words l.rest ≡ words l.line) × (length l.rest ≤ length l.line)
+
+abbrev pub decreases-loop-rest-2 : goal.decreases-loop-rest-2
+decreases-loop-rest-2 l = length l.rest

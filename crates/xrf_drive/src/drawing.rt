@@ -145,6 +145,17 @@ fn make_or(world: &mut World, drawn: &Option<Choice>)
     make_in_its_place(world);
 }
 
+// what a byte draws which draws no STEP, where it is there and enabled, else what takes its place
+fn make_drawn_or(world: &mut World, byte: u8)
+    requires room { length world.old.trace < CHOICES_MOST }
+    requires no_step { 240 ≤ byte }
+    ensures { Applied world.old
+        (choice_or world.old.scenario world.old.trace (drawn_choice (least_confirmable world.old.scenario world.old.trace) byte)) (Ok tt) world.new }
+{
+    let drawn = drawn(world, byte);
+    make_or(world, &drawn);
+}
+
 // STEP of the site that is not this one, where it is enabled
 fn step_of_other(world: &mut World, site: Site) -> bool
     requires room { length world.old.trace < CHOICES_MOST }
@@ -181,9 +192,6 @@ pub(crate) fn turn(world: &mut World, word: u32)
     match (word % 256) as u8 {
         0..=119 => step_or(world, Site::A),
         120..=239 => step_or(world, Site::B),
-        byte => {
-            let drawn = drawn(world, byte);
-            make_or(world, &drawn);
-        }
+        byte => make_drawn_or(world, byte),
     }
 }

@@ -4,7 +4,7 @@ use Rattle.std.proofs.lemmas.Grind.{common_steps}
 use Rattle.xrf_base.specs.declared.items.Item.{Item}
 use Rattle.xrf_base.specs.declared.site.Site.{Site}
 use Rattle.xrf_base.specs.declared.site.Site.TheVariants as site
-use Rattle.xrf_active.specs.Taking.{LeavesRoom, HasSmallKeys}
+use Rattle.xrf_active.specs.Taking.{LeavesRoom, HasSmallKeys, MayBeHanded}
 use Rattle.xrf_setup.specs.declared.ranges.TheConstants.{CHOICES_MOST}
 use Rattle.xrf_setup.specs.declared.choice.Choice.{Choice}
 use Rattle.xrf_setup.specs.declared.choice.Choice.TheVariants as choice
@@ -49,7 +49,7 @@ use Rattle.xrf_world.specs.Making.{MayMake, IsMade, MayRead, inc_of_want, entry_
 use Rattle.xrf_world.specs.Standing.{Goes}
 use Rattle.xrf_world.specs.Wants as wants
 use Rattle.xrf_world.specs.Places.{answer_given}
-use Rattle.xrf_world.specs.Seats.{MayBeHanded, after_want}
+use Rattle.xrf_world.specs.Seats.{after_want}
 use Rattle.xrf_world.specs.Wants.{while_left, is_item_left, wanted, wanted_by, may_make, act_of_want}
 use Rattle.xrf_world.proofs.FollowLaws.{of-item, of-act, slot-may, can-follow}
 use Rattle.xrf_world.proofs.TimeLaws.{IsBy, time-of}

@@ -2,7 +2,7 @@
 use Rattle.std.proofs.Common.{◌≡◌, Bool, true, false, ◌||◌, ◌∙◌, sym, ap, refl, arith, is_some, is_none, List, [], ◌∷◌, length, Option, Some, None, Ok, Err}
 use Rattle.std.specs.Option.{option_and_then}
 use Rattle.xrf_base.specs.declared.site.Site.{Site}
-use Rattle.xrf_active.specs.Taking.{LeavesRoom, HasSmallKeys}
+use Rattle.xrf_active.specs.Taking.{LeavesRoom, HasSmallKeys, MayBeHanded}
 use Rattle.xrf_cebt.specs.declared.commands.Cebt.{Cebt}
 use Rattle.xrf_cebt.specs.declared.replies.CebtReply.{CebtReply}
 use Rattle.xrf_exit.specs.declared.ExitAnswer.{ExitAnswer}
@@ -31,7 +31,6 @@ use Rattle.xrf_trace.specs.Scenario.{Scen, settings}
 use Rattle.xrf_trace.specs.Words.{is_item, now, who_at}
 use Rattle.xrf_world.specs.Making.{IsReached, IsStarted}
 use Rattle.xrf_world.specs.Places.{answer_given}
-use Rattle.xrf_world.specs.Seats.{MayBeHanded}
 use Rattle.xrf_world.specs.Standing.{Goes}
 use Rattle.xrf_world.proofs.ActLaws.{own-hist, own-site, outcome-is}
 use Rattle.xrf_world.proofs.FollowLaws.{can-follow}

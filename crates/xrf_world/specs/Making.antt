@@ -1,5 +1,6 @@
 -- What is known where an entry is made, and what it leaves.
 use Rattle.std.specs.Prelude.{◌≡◌, ◌<◌, ◌≤◌, ◌*◌, ◌+◌, ◌==◌, ℕ, if◌then◌else◌, List, [], ◌∷◌, length, Option, Some, None, Result, Ok, Err}
+use Rattle.xrf_active.specs.Taking.{MayBeHanded}
 use Rattle.xrf_base.specs.declared.items.ItemAnswer.{ItemAnswer}
 use Rattle.xrf_base.specs.declared.site.Site.{Site}
 use Rattle.xrf_devices.specs.Writing.{MayLand}
@@ -33,7 +34,7 @@ use Rattle.xrf_world.specs.declared.pair.Pair.{Pair}
 use Rattle.xrf_world.specs.declared.place.Place.{Place}
 use Rattle.xrf_world.specs.Counts.{CanCount}
 use Rattle.xrf_world.specs.Places.{CanTake}
-use Rattle.xrf_world.specs.Seats.{MayBeHanded, after_want}
+use Rattle.xrf_world.specs.Seats.{after_want}
 use Rattle.xrf_world.specs.Standing.{StandsAt, Stands}
 use Rattle.xrf_world.specs.Wants.{act_of_want, is_write}
 

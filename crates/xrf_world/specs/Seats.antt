@@ -1,4 +1,4 @@
--- How a seat stands for the job at its site, and when its job may be handed an answer.
+-- How a seat stands for the job at its site, and what its job wants.
 use Rattle.std.specs.Prelude.{◌≡◌, ◌<◌, Bool, true, false, List, ◌∷◌, length, Option, Some, None, IfSome}
 use Rattle.std.specs.Option.{option_map}
 use Rattle.xrf_ctl.specs.Control.{ControlRecord}
@@ -7,7 +7,6 @@ use Rattle.xrf_history.specs.declared.answer.Answer.TheVariants as answer
 use Rattle.xrf_history.specs.declared.settings.Settings.{Settings}
 use Rattle.xrf_history.specs.declared.want.Want.{Want}
 use Rattle.xrf_history.specs.declared.want.Want.TheVariants as want
-use Rattle.xrf_history.specs.Accepting.{may_take, IsInTime}
 use Rattle.xrf_history.specs.Events.{Event, Ticked}
 use Rattle.xrf_history.specs.Holding.{is_owner}
 use Rattle.xrf_history.specs.Looking.{record_seen}
@@ -15,7 +14,6 @@ use Rattle.xrf_history.specs.Next.{next}
 use Rattle.xrf_history.specs.Restarting.{has_read_block}
 use Rattle.xrf_job.specs.Rooms.{AreFor}
 use Rattle.xrf_active.specs.Standing as active
-use Rattle.xrf_active.specs.Taking.{LeavesRoom, HasSmallKeys}
 use Rattle.xrf_standby.specs.Standing as standby
 use Rattle.xrf_world.specs.declared.job.Job.{Job}
 use Rattle.xrf_world.specs.declared.job.Job.TheVariants as jobs
@@ -42,14 +40,6 @@ pub record SeatIs (seat : Seat) (p : Settings) (there : Option (List Event)) : T
   pub job : JobIs seat.job p there
   pub seen : IfSome there (λ h. seat.seen ≡ record_seen h)
   pub has_read : IfSome there (λ h. seat.has_read ≡ has_read_block h)
-
--- when the job with a history may be handed an answer
-pub record MayBeHanded (p : Settings) (h : List Event) (a : Answer) : Type 0 where
-  pub fitting : may_take p h a ≡ true
-  pub few : length h < 16385
-  pub in_time : IsInTime h a
-  pub room : LeavesRoom a
-  pub small_keys : HasSmallKeys a
 
 -- a job has few events
 abbrev pub FewEvents : Option (List Event) → Type 0

@@ -14,11 +14,12 @@ ghost use Rattle.xrf_history.specs.Reserving.{last_decision};
 ghost use Rattle.xrf_history.specs.Working.{item_answer};
 ghost use Rattle.xrf_history.specs.Terminals.{table};
 ghost use Rattle.xrf_active.specs.Standing as active;
+ghost use Rattle.xrf_active.specs.Taking.{MayBeHanded};
 ghost use Rattle.xrf_standby.specs.Standing as standby;
 ghost use Rattle.xrf_trace.specs.Jobs.{holds};
 ghost use Rattle.xrf_trace.specs.Items.{number_of_job};
 ghost use Rattle.xrf_trace.specs.Refusals.{of_job};
-ghost use Rattle.xrf_world.specs.Seats.{JobIs, WasHanded, MayBeHanded, FewEvents, want_of};
+ghost use Rattle.xrf_world.specs.Seats.{JobIs, WasHanded, FewEvents, want_of};
 ghost use Rattle.xrf_world.specs.Report.{state_of_job};
 
 use crate::state::JobState;

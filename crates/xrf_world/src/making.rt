@@ -70,12 +70,12 @@ fn vacate_if_ended(seat: &mut Seat, want: &Want)
 
 /// Makes an act that the job at a site wants, lands what is to land of it, and hands the job an answer.
 pub(crate) fn make_act(
+    answer: &Answer,
     middle: &mut Middle,
     place: &mut Place,
     site: Site,
     want: &Want,
     land: &Land,
-    answer: &Answer,
 )
     requires { (t : List Made) × StandsAt middle.old place.old t site × MayMake middle.old.scenario t site want.now land.now answer.now }
     ensures made { (t : List Made) (m : MayMake middle.old.scenario t site want.now land.now answer.now) → StandsAt middle.old place.old t site
@@ -85,15 +85,14 @@ pub(crate) fn make_act(
     let inc = inc_of_want(want, place.seat.inc());
     let number = place.kept.items.next();
     let given = place.seat.take(answer);
-    let act = act_of(&place.seat, number, want);
-    vacate_if_ended(&mut place.seat, want);
     let entry = Entry {
         tick: middle.counts.tick,
         who: who_at(site),
         inc,
-        act,
+        act: act_of(&place.seat, number, want),
         land: *land,
     };
+    vacate_if_ended(&mut place.seat, want);
     middle.follow(&entry);
     place.kept.follow(&entry, given);
 }

@@ -34,7 +34,7 @@ fn refused_at(
         → result ≡ refusal middle.now.scenario t choice.now }
 {
     let seat = &place.seat;
-    let want = seat.want();
+    let want = seat.job.want();
     match choice {
         Choice::Step(_) => unless(
             may_make(is_free, place.has_left(&middle.scenario, site), &want),

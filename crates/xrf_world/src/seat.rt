@@ -2,6 +2,7 @@
 
 ghost use Rattle.std.specs.Prelude.{◌≡◌, ◌≤◌, [], ◌∷◌, true, List, Option, Some, None, is_some, IfOk};
 ghost use Rattle.std.specs.Option.{option_and_then, option_map, option_copied};
+ghost use Rattle.xrf_active.specs.Taking.{MayBeHanded};
 ghost use Rattle.xrf_base.specs.Ranges.{AreLimits};
 ghost use Rattle.xrf_cebt.specs.Reply.{reply_to};
 ghost use Rattle.xrf_history.specs.declared.settings.Settings.{Settings as Set};
@@ -17,7 +18,7 @@ ghost use Rattle.xrf_history.specs.Working.{item_answer};
 ghost use Rattle.xrf_trace.specs.Jobs.{holds};
 ghost use Rattle.xrf_trace.specs.Items.{number_of_job};
 ghost use Rattle.xrf_trace.specs.Refusals.{of_job};
-ghost use Rattle.xrf_world.specs.Seats.{SeatIs, MayBeHanded, FewEvents, want_of, ticked, seen_after, read_after};
+ghost use Rattle.xrf_world.specs.Seats.{SeatIs, FewEvents, ticked, seen_after, read_after};
 ghost use Rattle.xrf_world.specs.Report.{state_of_job};
 
 use crate::job::Job;
@@ -28,7 +29,7 @@ use xrf_cavm::Decided;
 use xrf_cebt::{Cebt, CebtReply};
 use xrf_ctl::Control;
 use xrf_exit::Notice;
-use xrf_history::{Answer, Settings, Want};
+use xrf_history::{Answer, Settings};
 use xrf_job::Rooms;
 use xrf_terms::TermTable;
 
@@ -72,14 +73,6 @@ impl Seat {
             seen: Control::empty(),
             has_read: false,
         })
-    }
-
-    /// The act that its job wants next, none where no job is there.
-    pub(crate) fn want(&self) -> Want
-        requires { (p : Set) × (job : Option (List Event)) × SeatIs self.now p job × FewEvents job }
-        ensures { (p : Set) (job : Option (List Event)) → SeatIs self.now p job → result ≡ want_of p job }
-    {
-        self.job.want()
     }
 
     /// Whether a job is there.

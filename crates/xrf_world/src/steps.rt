@@ -32,7 +32,7 @@ fn make_block_read(middle: &mut Middle, place: &mut Place, site: Site, block: u3
 {
     let mut bytes = [0; 4096];
     let answer = block_answer(&middle.data_sets, block, place.seat.has_read, &mut bytes);
-    make_act(middle, place, site, &Want::LogRead(block), land, &answer);
+    make_act(&answer, middle, place, site, &Want::LogRead(block), land);
 }
 
 // an act is made of which its job is told that it is done
@@ -43,7 +43,7 @@ fn make_done(middle: &mut Middle, place: &mut Place, site: Site, want: &Want, la
         → ((h : List Event) → answer_of middle.old.scenario t site h want.now ≡ answers.Done (now t)) → MakesAt middle.old place.old t site c (Ok tt) middle.new place.new }
 {
     let at = middle.counts.tick;
-    make_act(middle, place, site, want, land, &Answer::Done(at));
+    make_act(&Answer::Done(at), middle, place, site, want, land);
 }
 
 // an act is made of which its job is told more, and no block of the log
@@ -53,8 +53,14 @@ fn make_told(middle: &mut Middle, place: &mut Place, site: Site, want: &Want, la
     ensures { (t : List Made) (c : Choice) → StandsAt middle.old place.old t site → IsMade middle.old.scenario t site want.now land.now c
         → MakesAt middle.old place.old t site c (Ok tt) middle.new place.new }
 {
-    let answer = middle.answer(place, site, want);
-    make_act(middle, place, site, want, land, &answer);
+    make_act(
+        &middle.answer(place, site, want),
+        middle,
+        place,
+        site,
+        want,
+        land,
+    );
 }
 
 // the next act, in full or as a signal that is lost
@@ -83,7 +89,7 @@ fn step_of_job(
     ensures { (t : List Made) → StandsAt middle.old place.old t site → Goes middle.old.scenario t → is_free ≡ reserve_is_free t
         → MakesAt middle.old place.old t site (choice.Step site) result middle.new place.new }
 {
-    let want = place.seat.want();
+    let want = place.seat.job.want();
     if !may_make(is_free, place.has_left(&middle.scenario, site), &want) {
         return Err(Refused::NotEnabled);
     }
@@ -114,7 +120,7 @@ pub(crate) fn lose(middle: &mut Middle, place: &mut Place, site: Site) -> Result
     ensures { (t : List Made) → StandsAt middle.old place.old t site → Goes middle.old.scenario t
         → MakesAt middle.old place.old t site (choice.Lose site) result middle.new place.new }
 {
-    let want = place.seat.want();
+    let want = place.seat.job.want();
     if !is_signal(&want) {
         return Err(Refused::NotEnabled);
     }
@@ -133,18 +139,18 @@ pub(crate) fn fail(
     ensures { (t : List Made) → StandsAt middle.old place.old t site → Goes middle.old.scenario t
         → MakesAt middle.old place.old t site (choice.Fail site cut.now) result middle.new place.new }
 {
-    let want = place.seat.want();
+    let want = place.seat.job.want();
     match fail_refused(cut, &want) {
         Some(reason) => Err(reason),
         None => {
             let at = middle.counts.tick;
             make_act(
+                &Answer::Failed(at),
                 middle,
                 place,
                 site,
                 &want,
                 &Land::Fail(*cut),
-                &Answer::Failed(at),
             );
             Ok(())
         }

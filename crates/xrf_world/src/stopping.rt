@@ -55,7 +55,7 @@ pub(crate) fn stop(
     ensures { (t : List Made) → StandsAt middle.old place.old t site → Goes middle.old.scenario t
         → MakesAt middle.old place.old t site (choice.Stop site cut.now) result middle.new place.new }
 {
-    let want = place.seat.want();
+    let want = place.seat.job.want();
     match stop_refused(cut, place.seat.has_job(), &want) {
         Some(reason) => Err(reason),
         None => {

@@ -15,7 +15,7 @@ pub returns-in-Step : goal.returns-in-Step
 returns-in-Step c = λ t stands free of.
     let s = c.args.middle.now.scenario in
     let x = c.args.site in
-    let is : c.want-want.result ≡ want_of (settings s x) (hist s t x) = c.want-want.ensures (settings s x) (hist s t x) stands.place.seat in
+    let is : c.want-want.result ≡ want_of (settings s x) (hist s t x) = c.want-want.ensures (settings s x) (hist s t x) stands.place.seat.job in
     let at : c.in-Step.field-0 ≡ x = let is : site_of c.args.choice.now ≡ Some c.in-Step.field-0 = ap site_of c.in-Step.is in cc in
     c.unless.ensures
     ∙ ap (λ (b : Bool). unless b NotEnabled)
@@ -27,7 +27,7 @@ pub returns-in-Lose : goal.returns-in-Lose
 returns-in-Lose c = λ t stands free of.
     let s = c.args.middle.now.scenario in
     let x = c.args.site in
-    let is : c.want-want.result ≡ want_of (settings s x) (hist s t x) = c.want-want.ensures (settings s x) (hist s t x) stands.place.seat in
+    let is : c.want-want.result ≡ want_of (settings s x) (hist s t x) = c.want-want.ensures (settings s x) (hist s t x) stands.place.seat.job in
     let at : c.in-Lose.field-0 ≡ x = let is : site_of c.args.choice.now ≡ Some c.in-Lose.field-0 = ap site_of c.in-Lose.is in cc in
     c.unless-in-Lose.ensures
     ∙ ap (λ (b : Bool). unless b NotEnabled) (c.is_signal.ensures ∙ of-wanted wants.is_signal refl s t x c.want-want.result is ∙ sym (signal-same s t x))
@@ -37,7 +37,7 @@ pub returns-in-Stop : goal.returns-in-Stop
 returns-in-Stop c = λ t stands free of.
     let s = c.args.middle.now.scenario in
     let x = c.args.site in
-    let is : c.want-want.result ≡ want_of (settings s x) (hist s t x) = c.want-want.ensures (settings s x) (hist s t x) stands.place.seat in
+    let is : c.want-want.result ≡ want_of (settings s x) (hist s t x) = c.want-want.ensures (settings s x) (hist s t x) stands.place.seat.job in
     let at : c.in-Stop.field-0 ≡ x = let is : site_of c.args.choice.now ≡ Some c.in-Stop.field-0 = ap site_of c.in-Stop.is in cc in
     c.stop_refused.ensures
     ∙ ap (λ (b : Bool). wants.stop_refusal c.in-Stop.cut b c.want-want.result) (c.has_job.ensures (settings s x) (hist s t x) stands.place.seat)
@@ -49,7 +49,7 @@ pub returns-in-Fail : goal.returns-in-Fail
 returns-in-Fail c = λ t stands free of.
     let s = c.args.middle.now.scenario in
     let x = c.args.site in
-    let is : c.want-want.result ≡ want_of (settings s x) (hist s t x) = c.want-want.ensures (settings s x) (hist s t x) stands.place.seat in
+    let is : c.want-want.result ≡ want_of (settings s x) (hist s t x) = c.want-want.ensures (settings s x) (hist s t x) stands.place.seat.job in
     let at : c.in-Fail.field-0 ≡ x = let is : site_of c.args.choice.now ≡ Some c.in-Fail.field-0 = ap site_of c.in-Fail.is in cc in
     c.fail_refused.ensures
     ∙ of-wanted (wants.fail_refusal c.in-Fail.cut) (fail-alike c.in-Fail.cut) s t x c.want-want.result is

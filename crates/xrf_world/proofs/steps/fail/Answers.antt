@@ -20,7 +20,7 @@ want-want-requires c =
     let s = c.args.middle.now.scenario in
     let x = c.args.site in
     let t = c.requires.0 in
-    (settings s x, hist s t x, c.requires.1.place.seat, few-events s t x c.requires.2)
+    (settings s x, hist s t x, c.requires.1.place.seat.job, few-events s t x c.requires.2)
 
 pub make_act-requires : goal.make_act-requires
 make_act-requires c =
@@ -29,7 +29,7 @@ make_act-requires c =
     let cut = c.args.cut.now in
     let t = c.requires.0 in
     let stands = c.requires.1 in
-    let is : c.want-want.result ≡ want_of (settings s x) (hist s t x) = c.want-want.ensures (settings s x) (hist s t x) stands.place.seat in
+    let is : c.want-want.result ≡ want_of (settings s x) (hist s t x) = c.want-want.ensures (settings s x) (hist s t x) stands.place.seat.job in
     let met : fail_refusal cut (wanted s t x) ≡ None =
     sym (c.fail_refused.ensures ∙ of-wanted (fail_refusal cut) (fail-alike cut) s t x c.want-want.result is) ∙ c.in-None.is in
     let same : wanted s t x ≡ c.want-want.result =
@@ -45,7 +45,7 @@ returns-in-Some c = λ t stands g.
     let s = c.args.middle.now.scenario in
     let x = c.args.site in
     let cut = c.args.cut.now in
-    let is : c.want-want.result ≡ want_of (settings s x) (hist s t x) = c.want-want.ensures (settings s x) (hist s t x) stands.place.seat in
+    let is : c.want-want.result ≡ want_of (settings s x) (hist s t x) = c.want-want.ensures (settings s x) (hist s t x) stands.place.seat.job in
     let refused : fail_refusal cut (wanted s t x) ≡ Some c.in-Some.reason =
     sym (c.fail_refused.ensures ∙ of-wanted (fail_refusal cut) (fail-alike cut) s t x c.want-want.result is) ∙ c.in-Some.is in
     (fail-refused s t x cut c.in-Some.reason refused, refl, refl)
@@ -59,7 +59,7 @@ returns-in-None c = λ t stands g.
     let cut = c.args.cut.now in
     let new = c.make_act.new.middle in
     let after = c.make_act.new.place in
-    let is : c.want-want.result ≡ want_of (settings s x) (hist s t x) = c.want-want.ensures (settings s x) (hist s t x) stands.place.seat in
+    let is : c.want-want.result ≡ want_of (settings s x) (hist s t x) = c.want-want.ensures (settings s x) (hist s t x) stands.place.seat.job in
     let met : fail_refusal cut (wanted s t x) ≡ None =
     sym (c.fail_refused.ensures ∙ of-wanted (fail_refusal cut) (fail-alike cut) s t x c.want-want.result is) ∙ c.in-None.is in
     let same : wanted s t x ≡ c.want-want.result =

@@ -17,13 +17,13 @@ want-want-requires c =
     let s = c.args.middle.now.scenario in
     let x = c.args.site in
     let t = c.requires.0 in
-    (settings s x, hist s t x, c.requires.1.place.seat, few-events s t x c.requires.2)
+    (settings s x, hist s t x, c.requires.1.place.seat.job, few-events s t x c.requires.2)
 
 pub returns-then-not-is_signal : goal.returns-then-not-is_signal
 returns-then-not-is_signal c = λ t stands g.
     let s = c.args.middle.now.scenario in
     let x = c.args.site in
-    let is : c.want-want.result ≡ want_of (settings s x) (hist s t x) = c.want-want.ensures (settings s x) (hist s t x) stands.place.seat in
+    let is : c.want-want.result ≡ want_of (settings s x) (hist s t x) = c.want-want.ensures (settings s x) (hist s t x) stands.place.seat.job in
     let signal : is_signal (wanted s t x) ≡ false =
     sym (c.is_signal.ensures ∙ of-wanted is_signal refl s t x c.want-want.result is) ∙ c.if-not-is_signal.true in
     (lose-refused s t x signal, refl, refl)
@@ -34,7 +34,7 @@ make_next-requires c =
     let x = c.args.site in
     let t = c.requires.0 in
     let stands = c.requires.1 in
-    let is : c.want-want.result ≡ want_of (settings s x) (hist s t x) = c.want-want.ensures (settings s x) (hist s t x) stands.place.seat in
+    let is : c.want-want.result ≡ want_of (settings s x) (hist s t x) = c.want-want.ensures (settings s x) (hist s t x) stands.place.seat.job in
     let signal : is_signal (wanted s t x) ≡ true =
     sym (c.is_signal.ensures ∙ of-wanted is_signal refl s t x c.want-want.result is) ∙ c.if-not-is_signal.false in
     let same : wanted s t x ≡ c.want-want.result = met-wanted is_signal refl s t x c.want-want.result is signal in
@@ -44,7 +44,7 @@ pub returns : goal.returns
 returns c = λ t stands g.
     let s = c.args.middle.now.scenario in
     let x = c.args.site in
-    let is : c.want-want.result ≡ want_of (settings s x) (hist s t x) = c.want-want.ensures (settings s x) (hist s t x) stands.place.seat in
+    let is : c.want-want.result ≡ want_of (settings s x) (hist s t x) = c.want-want.ensures (settings s x) (hist s t x) stands.place.seat.job in
     let signal : is_signal (wanted s t x) ≡ true =
     sym (c.is_signal.ensures ∙ of-wanted is_signal refl s t x c.want-want.result is) ∙ c.if-not-is_signal.false in
     let same : wanted s t x ≡ c.want-want.result = met-wanted is_signal refl s t x c.want-want.result is signal in

@@ -14,5 +14,5 @@ returns c = λ t chosen stands made.
     let new = c.make_act.new.middle in
     let after = c.make_act.new.place in
     act-made old place t x chosen new after w l (answer_of old.scenario t x made.job w)
-    (subst (λ (a : Answer). MakesEntry old place t x new after w l a) (c.answer-answer.ensures t made.job stands made.there)
+    (subst (λ (a : Answer). MakesEntry old place t x new after w l a) (c.answer.ensures t made.job stands made.there)
     (c.make_act.ensures.made t)) c.make_act.ensures.scenario stands made.may made.is

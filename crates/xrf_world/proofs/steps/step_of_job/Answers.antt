@@ -18,13 +18,13 @@ want-want-requires c =
     let s = c.args.middle.now.scenario in
     let x = c.args.site in
     let t = c.requires.0 in
-    (settings s x, hist s t x, c.requires.1.place.seat, few-events s t x c.requires.2)
+    (settings s x, hist s t x, c.requires.1.place.seat.job, few-events s t x c.requires.2)
 
 pub returns-then-not-may_make : goal.returns-then-not-may_make
 returns-then-not-may_make c = λ t stands g free.
     let s = c.args.middle.now.scenario in
     let x = c.args.site in
-    let is : c.want-want.result ≡ want_of (settings s x) (hist s t x) = c.want-want.ensures (settings s x) (hist s t x) stands.place.seat in
+    let is : c.want-want.result ≡ want_of (settings s x) (hist s t x) = c.want-want.ensures (settings s x) (hist s t x) stands.place.seat.job in
     let may : may_make (reserve_is_free t) (wanted s t x) ≡ false =
     sym (c.may_make.ensures ∙ may-wanted s t x c.want-want.result c.args.is_free c.has_left.result free (c.has_left.ensures t stands.place) is)
     ∙ c.if-not-may_make.true in
@@ -36,7 +36,7 @@ make_next-requires c =
     let x = c.args.site in
     let t = c.requires.0 in
     let stands = c.requires.1 in
-    let is : c.want-want.result ≡ want_of (settings s x) (hist s t x) = c.want-want.ensures (settings s x) (hist s t x) stands.place.seat in
+    let is : c.want-want.result ≡ want_of (settings s x) (hist s t x) = c.want-want.ensures (settings s x) (hist s t x) stands.place.seat.job in
     let may : may_make (reserve_is_free t) (wanted s t x) ≡ true =
     sym (c.may_make.ensures ∙ may-wanted s t x c.want-want.result c.args.is_free c.has_left.result c.requires.3 (c.has_left.ensures t stands.place) is)
     ∙ c.if-not-may_make.false in
@@ -47,7 +47,7 @@ pub returns : goal.returns
 returns c = λ t stands g free.
     let s = c.args.middle.now.scenario in
     let x = c.args.site in
-    let is : c.want-want.result ≡ want_of (settings s x) (hist s t x) = c.want-want.ensures (settings s x) (hist s t x) stands.place.seat in
+    let is : c.want-want.result ≡ want_of (settings s x) (hist s t x) = c.want-want.ensures (settings s x) (hist s t x) stands.place.seat.job in
     let may : may_make (reserve_is_free t) (wanted s t x) ≡ true =
     sym (c.may_make.ensures ∙ may-wanted s t x c.want-want.result c.args.is_free c.has_left.result free (c.has_left.ensures t stands.place) is)
     ∙ c.if-not-may_make.false in

@@ -13,7 +13,7 @@ want-want-requires c =
     let s = c.args.middle.now.scenario in
     let x = c.args.site in
     let t = c.requires.0 in
-    (settings s x, hist s t x, c.requires.1.place.seat, few-events s t x c.requires.2)
+    (settings s x, hist s t x, c.requires.1.place.seat.job, few-events s t x c.requires.2)
 
 pub cut_off-requires : goal.cut_off-requires
 cut_off-requires c =
@@ -22,7 +22,7 @@ cut_off-requires c =
     let cut = c.args.cut.now in
     let t = c.requires.0 in
     let stands = c.requires.1 in
-    let is : c.want-want.result ≡ want_of (settings s x) (hist s t x) = c.want-want.ensures (settings s x) (hist s t x) stands.place.seat in
+    let is : c.want-want.result ≡ want_of (settings s x) (hist s t x) = c.want-want.ensures (settings s x) (hist s t x) stands.place.seat.job in
     let met : stop_refusal cut (is_some (hist s t x)) (wanted s t x) ≡ None =
     sym (c.stop_refused.ensures
     ∙ ap (λ (b : Bool). stop_refusal cut b c.want-want.result) (c.has_job.ensures (settings s x) (hist s t x) stands.place.seat)
@@ -35,7 +35,7 @@ returns-in-Some c = λ t stands g.
     let s = c.args.middle.now.scenario in
     let x = c.args.site in
     let cut = c.args.cut.now in
-    let is : c.want-want.result ≡ want_of (settings s x) (hist s t x) = c.want-want.ensures (settings s x) (hist s t x) stands.place.seat in
+    let is : c.want-want.result ≡ want_of (settings s x) (hist s t x) = c.want-want.ensures (settings s x) (hist s t x) stands.place.seat.job in
     let met : stop_refusal cut (is_some (hist s t x)) (wanted s t x) ≡ Some c.in-Some.reason =
     sym (c.stop_refused.ensures
     ∙ ap (λ (b : Bool). stop_refusal cut b c.want-want.result) (c.has_job.ensures (settings s x) (hist s t x) stands.place.seat)
@@ -48,7 +48,7 @@ returns-in-None c = λ t stands g.
     let s = c.args.middle.now.scenario in
     let x = c.args.site in
     let cut = c.args.cut.now in
-    let is : c.want-want.result ≡ want_of (settings s x) (hist s t x) = c.want-want.ensures (settings s x) (hist s t x) stands.place.seat in
+    let is : c.want-want.result ≡ want_of (settings s x) (hist s t x) = c.want-want.ensures (settings s x) (hist s t x) stands.place.seat.job in
     let met : stop_refusal cut (is_some (hist s t x)) (wanted s t x) ≡ None =
     sym (c.stop_refused.ensures
     ∙ ap (λ (b : Bool). stop_refusal cut b c.want-want.result) (c.has_job.ensures (settings s x) (hist s t x) stands.place.seat)

@@ -80,7 +80,7 @@ fn step(world: &mut World, site: Site) -> bool
     requires room { length world.old.trace < CHOICES_MOST }
     ensures { Tried world.old (step_at world.old.scenario world.old.trace site) result world.new }
 {
-    make(world, &Choice::Step(site))
+    world.has_job(site) && make(world, &Choice::Step(site))
 }
 
 fn tick(world: &mut World)

@@ -2,6 +2,7 @@
 
 ghost use Rattle.std.specs.Prelude.{◌≡◌, ◌++◌, ◌&&◌, OnOk, IfOk, reverse};
 ghost use Rattle.xrf_cavm.specs.Record.{inc_of_owner};
+ghost use Rattle.xrf_ctl.specs.Control.{ControlRecord};
 ghost use Rattle.xrf_report.specs.Summary.{stops, throughs, counted_line, made_lines, owner_lines, unit_lines, head_line, summary_text};
 ghost use Rattle.xrf_trace.specs.Landing.{is_stop, lands};
 ghost use Rattle.xrf_trace.specs.Throughs.{changes_owner};
@@ -10,7 +11,7 @@ ghost use Rattle.xrf_trace.specs.Devices.{control_after};
 use Piece::{Number, Text};
 use std::alloc::{AllocError, Global};
 use xrf_base::Inc;
-use xrf_ctl::{Control, Owner};
+use xrf_ctl::Owner;
 use xrf_grammar::writing::{Piece, put};
 use xrf_setup::Landing;
 use xrf_trace::{Act, Entry, Land};
@@ -54,42 +55,42 @@ fn inc_of(owner: Option<Owner>) -> Inc
     }
 }
 
-fn changes_owner(before: &Control, act: &Act) -> bool
-    ensures { result ≡ changes_owner before.now act.now }
+// whether an entry writes another owner than this incarnation
+fn is_through(owner: Inc, entry: &Entry) -> bool
+    ensures { (before : ControlRecord) → inc_of_owner before.owner ≡ owner → result ≡ (lands entry.now.land && changes_owner before entry.now.act) }
 {
-    match act {
-        Act::CtlWrite(written) => inc_of(written.owner()) != inc_of(before.owner()),
+    match &entry.act {
+        Act::CtlWrite(written) => lands(&entry.land) && inc_of(written.owner()) != owner,
         _ => false,
     }
 }
 
-// the control record as an entry leaves it
-fn land_control(control: &mut Control, entry: &Entry)
-    ensures { control.new ≡ control_after entry.now.act entry.now.land control.old }
+// the owner's incarnation as an entry leaves it
+fn owner_after(owner: Inc, entry: &Entry) -> Inc
+    ensures { (before : ControlRecord) → inc_of_owner before.owner ≡ owner → result ≡ inc_of_owner (control_after entry.now.act entry.now.land before).owner }
 {
-    if let Act::CtlWrite(written) = &entry.act {
-        if lands(&entry.land) {
-            *control = *written;
+    match &entry.act {
+        Act::CtlWrite(written) => {
+            if lands(&entry.land) {
+                inc_of(written.owner())
+            } else {
+                owner
+            }
         }
+        _ => owner,
     }
-}
-
-fn is_through(before: &Control, entry: &Entry) -> bool
-    ensures { result ≡ (lands entry.now.land && changes_owner before.now entry.now.act) }
-{
-    lands(&entry.land) && changes_owner(before, &entry.act)
 }
 
 fn count_throughs(journal: &[Entry]) -> u64
     ensures { result ≡ throughs (reverse journal.now) }
 {
     let mut count = 0u64;
-    let mut control = Control::empty();
+    let mut owner = 0;
     for entry in journal {
-        if is_through(&control, entry) {
+        if is_through(owner, entry) {
             count += 1;
         }
-        land_control(&mut control, entry);
+        owner = owner_after(owner, entry);
     }
     count
 }

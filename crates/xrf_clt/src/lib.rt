@@ -125,7 +125,7 @@ fn append_words(texts: &mut Vec<u8>, line: &[u8]) -> Result<(), AllocError>
 
 /// Appends the words of a line with one blank between them. What was there stays, whatever the answer.
 #[tactic(auto, using(crate::proofs::Joining::joined_behind, crate::proofs::Joining::front_of_front, crate::proofs::Joining::stays_in_front))]
-fn append_first(texts: &mut Vec<u8>, line: &[u8]) -> Result<(), AllocError>
+fn append_joined(texts: &mut Vec<u8>, line: &[u8]) -> Result<(), AllocError>
     ensures ok { OnOk result (texts.new.items ≡ texts.old.items ++ join_with_byte 32 (words line.now)) }
     ensures stays { take (length texts.old.items) texts.new.items ≡ texts.old.items }
 {
@@ -135,21 +135,6 @@ fn append_first(texts: &mut Vec<u8>, line: &[u8]) -> Result<(), AllocError>
     texts.reserve(line.len())?;
     texts.extend_from_slice(word)?;
     append_words(texts, more)
-}
-
-/// Appends the words of a line with one blank between them, or leaves the texts as they were.
-fn append_joined(texts: &mut Vec<u8>, line: &[u8]) -> Result<(), AllocError>
-    ensures ok { OnOk result (texts.new.items ≡ texts.old.items ++ join_with_byte 32 (words line.now)) }
-    ensures err { OnErr result (texts.new.items ≡ texts.old.items) }
-{
-    let before = texts.len();
-    match append_first(texts, line) {
-        Ok(()) => Ok(()),
-        Err(error) => {
-            texts.truncate(before);
-            Err(error)
-        }
-    }
 }
 
 /// What is kept of a line: the applid, and where its text begins and ends among the texts of all lines.
@@ -277,7 +262,10 @@ impl Clt {
     {
         self.entries.reserve(1)?;
         let start = self.texts.len();
-        append_joined(&mut self.texts, order)?;
+        let Ok(()) = append_joined(&mut self.texts, order) else {
+            self.texts.truncate(start);
+            return Err(AllocError);
+        };
         let end = self.texts.len();
         self.entries.push_reserved(Entry { applid, start, end });
         Ok(())

@@ -1,3 +1,4 @@
 pub mod Texts
 pub mod NumberLaws
 pub mod NameLaws
+pub mod Tails

@@ -20,9 +20,17 @@ impl Slot {
         ensures { result ≡ bytes_of self.now }
     {
         let mut bytes = [0; 64];
-        bytes[0] = self.gate;
-        bytes[1..].copy_from_slice(&self.body);
+        self.write(&mut bytes);
         bytes
+    }
+
+    // writes the 64 bytes of the slot
+    fn write(&self, into: &mut [u8])
+        requires { length into.old ≡ 64 }
+        ensures { into.new ≡ bytes_of self.now }
+    {
+        into[0] = self.gate;
+        into[1..].copy_from_slice(&self.body);
     }
 }
 
@@ -96,7 +104,7 @@ impl<B: BodyRule> Slots<B> {
     {
         let slots = &self.slots[64 * b..64 * b + 64];
         for (k, slot) in slots.iter().enumerate() {
-            into[64 * k..64 * k + 64].copy_from_slice(&slot.bytes());
+            slot.write(&mut into[64 * k..64 * k + 64]);
         }
     }
 

@@ -16,8 +16,8 @@ fn is_word_zero(bytes: &[u8]) -> bool
     BigEndian::read_u64(bytes) == 0
 }
 
-// what stands from a place on
-fn from_place(bytes: &[u8], place: usize) -> &[u8]
+/// What stands from a place on.
+pub fn from_place(bytes: &[u8], place: usize) -> &[u8]
     requires { place ≤ length bytes.now }
     ensures behind { result.now ≡ drop place bytes.now }
     ensures shorter { length result.now + place ≡ length bytes.now }

@@ -1,11 +1,10 @@
 -- The bytes of a record have its parts, and bytes that have a record's parts are that record's.
-use Rattle.std.proofs.Common.{◌≡◌, ℕ, ◌+◌, ◌^◌, ◌<◌, ◌≤◌, List, [], ◌++◌, length, take, drop, Option, Some, None, refl, sym, ap, subst, ◌∙◌, arith}
+use Rattle.std.proofs.Common.{◌≡◌, ℕ, ◌^◌, ◌<◌, List, [], ◌++◌, length, Option, Some, None, refl, sym, ap, subst, ◌∙◌, arith}
 use Rattle.std.proofs.Math.Seq.{take-add}
-use Rattle.std.proofs.lemmas.List.{length-take, length-drop, get_or-take, get_or-drop, get_or_past, take_all}
-use Rattle.std.proofs.lemmas.Bool.{cases_lt}
+use Rattle.std.proofs.lemmas.List.{take_all}
 use Rattle.std.proofs.Common.{inl, inr}
-use Rattle.byteorder.specs.Endian.{big_number, big_bytes}
-use Rattle.byteorder.specs.Numbers.{big_from-take, big_number-reads_back}
+use Rattle.byteorder.specs.Endian.{big_bytes}
+use Rattle.byteorder.specs.Numbers.{big_number-reads_back}
 use Rattle.xrf_base.specs.Numbers.{AreBytes}
 use Rattle.xrf_base.proofs.NumberLaws.{number_part}
 use Rattle.xrf_ctl.specs.Places.{part, number_at, zeros, laid_at}

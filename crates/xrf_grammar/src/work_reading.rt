@@ -1,4 +1,4 @@
-//! First records and the items that most lines of work have, read word by word.
+//! The items that most lines of work have, read word by word.
 
 ghost use Rattle.std.specs.Prelude.{◌≡◌, ◌≤◌, ◌∷◌, [], IfSome, Some};
 ghost use Rattle.xrf_text.specs.Text.{texts};
@@ -11,33 +11,6 @@ use crate::number::read_number;
 use crate::operand::{read_class, read_site};
 use xrf_base::{Item, Name8, Value};
 use xrf_setup::Format;
-use xrf_setup::ranges::{FILE_LEAST, FILE_MOST};
-
-/// The number that a word spells, where it is from the first to the second.
-#[inline(always)]
-fn number_within(least: u16, most: u16, word: &[u8]) -> Option<u16>
-    ensures { IfSome result (λ n. (number_of word.now ≡ Some n) × ((least ≤ n) × (n ≤ most))) }
-{
-    let number = read_number(word)?;
-    if number < least {
-        return None;
-    }
-    if number > most {
-        return None;
-    }
-    Some(number)
-}
-
-/// The first record that three words spell.
-fn read_record(format: Format, word: &[u8], number: &[u8], value: &[u8]) -> Option<Line>
-    ensures { IfSome result (λ says. Spells (settings_of format) (word.now ∷ number.now ∷ value.now ∷ []) says) }
-{
-    if word != b"RECORD".as_slice() {
-        return None;
-    }
-    let number = number_within(FILE_LEAST, FILE_MOST, number)?;
-    Some(Line::Record(number, Value::read(value)?))
-}
 
 /// The item that a word and a name spell.
 fn read_named(format: Format, word: &[u8], name: &[u8]) -> Option<Item>
@@ -114,13 +87,12 @@ fn read_work(
     Some(Line::Work(site, read_item(format, item, operands)?))
 }
 
-/// The first record or the line of work that some words spell.
+/// The line of work that some words spell.
 #[inline(never)]
 pub(crate) fn read_by_words(format: Format, words: &[&[u8]]) -> Option<Line>
     ensures { IfSome result (λ says. Spells (settings_of format) (texts words.now) says) }
 {
     match words {
-        [word, number, value] => read_record(format, word, number, value),
         [word, site, item, operands @ ..] => read_work(format, word, site, item, operands),
         _ => None,
     }

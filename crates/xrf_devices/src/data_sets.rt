@@ -21,7 +21,7 @@ use xrf_gated::{Extent, Slots};
 use xrf_logrec::{KeyBody, LogBody};
 use xrf_msg::MsgBody;
 use xrf_setup::Scenario;
-use xrf_trace::Entry;
+use xrf_trace::{Act, Entry};
 
 /// The data sets of the pair, as bytes.
 #[derive(Drop)]
@@ -78,13 +78,24 @@ impl DataSets {
     {
         let act = &entry.act;
         let land = &entry.land;
-        land_control(&mut self.ctl, act, land);
-        land_signal1(&mut self.ctl, entry.who, act, land);
-        land_signal2(&mut self.signals, entry.who, act, land);
-        land_message(&mut self.messages, act, land);
-        land_log(&mut self.log, scenario.log(), act, land);
-        land_key(&mut self.key, act, land);
-        land_file(&mut self.file, scenario.file(), act, land);
+        match act {
+            Act::CtlWrite(_) => land_control(&mut self.ctl, act, land),
+            Act::Signal1(_) => land_signal1(&mut self.ctl, entry.who, act, land),
+            Act::Signal2(_) => land_signal2(&mut self.signals, entry.who, act, land),
+            Act::MsgClose(..) | Act::MsgBody(..) | Act::MsgOpen(..) => {
+                land_message(&mut self.messages, act, land);
+            }
+            Act::LogClose(..) | Act::LogBody(..) | Act::LogOpen(..) => {
+                land_log(&mut self.log, scenario.log(), act, land);
+            }
+            Act::KpClose(..) | Act::KpBody(..) | Act::KpOpen(..) => {
+                land_key(&mut self.key, act, land);
+            }
+            Act::FileWrite(..) | Act::Undo(..) => {
+                land_file(&mut self.file, scenario.file(), act, land);
+            }
+            _ => {}
+        }
     }
 
     /// The control record.

@@ -1,13 +1,18 @@
 -- What is made of a place, from what its entry is.
-use Rattle.std.proofs.Common.{◌≡◌, ◌≤◌, ◌∙◌, ℕ, List, ◌∷◌, length, Option, Ok, sym, ap, subst}
+use Rattle.std.proofs.Common.{◌≡◌, ◌≤◌, ◌∙◌, ℕ, List, ◌∷◌, length, Option, Some, Ok, sym, ap, subst}
+use Rattle.xrf_active.specs.Taking.{MayBeHanded}
 use Rattle.xrf_base.specs.declared.items.ItemAnswer.{ItemAnswer}
 use Rattle.xrf_base.specs.declared.site.Site.{Site}
 use Rattle.xrf_base.specs.declared.site.Site.TheVariants as site
 use Rattle.xrf_setup.specs.declared.choice.Choice.{Choice}
 use Rattle.xrf_setup.specs.declared.ranges.TheConstants.{ITEMS_MOST}
 use Rattle.xrf_history.specs.declared.answer.Answer.{Answer}
+use Rattle.xrf_history.specs.declared.settings.Settings.{Settings}
 use Rattle.xrf_history.specs.declared.want.Want.{Want}
+use Rattle.xrf_history.specs.Answers.{event}
 use Rattle.xrf_history.specs.Events.{Event}
+use Rattle.xrf_history.specs.Holding.{number}
+use Rattle.xrf_history.specs.Working.{item_answer}
 use Rattle.xrf_trace.specs.declared.entry.Act.{Act}
 use Rattle.xrf_trace.specs.declared.entry.Entry.{Entry}
 use Rattle.xrf_trace.specs.declared.entry.Land.{Land}
@@ -19,7 +24,7 @@ use Rattle.xrf_world.specs.declared.middle.Middle.{Middle}
 use Rattle.xrf_world.specs.declared.place.Kept.{Kept}
 use Rattle.xrf_world.specs.declared.place.Place.{Place}
 use Rattle.xrf_world.specs.declared.seat.Seat.{Seat}
-use Rattle.xrf_world.specs.Making.{CanFollow, CanRecord, MakesAt, MayMake}
+use Rattle.xrf_world.specs.Making.{CanFollow, CanRecord, IsHanded, MakesAt, MayMake, inc_of_want}
 use Rattle.xrf_world.specs.Places.{CanTake, KeptIs, PlaceIs}
 use Rattle.xrf_world.specs.Seats.{SeatIs}
 use Rattle.xrf_world.specs.Standing.{MiddleIs, StandsAt}
@@ -54,6 +59,31 @@ followed old new seat kept t x made e given job same scenario records after seat
         (keeps (subst (λ (one : Entry). CanTake old.scenario t x one given) (sym same) records.items));
   });
 }
+
+-- the seat of a job that may be handed an answer
+pub seat-of-job : (old : Middle) (place : Place) (t : List Entry) (x : Site) (w : Want) (l : Land) (a : Answer) → StandsAt old place t x → (m : MayMake old.scenario t x w l a)
+    → SeatIs place.seat (settings old.scenario x) (Some m.job)
+seat-of-job old place t x w l a stands m =
+    subst (λ (job : Option (List Event)). SeatIs place.seat (settings old.scenario x) job) m.there stands.place.seat
+
+-- A job that is handed an answer leaves all else as it stood, and so does a block that was copied for it.
+pub is-handed : (old : Middle) (block : List ℕ) (place : Place) (seat : Seat) (t : List Entry) (x : Site) (w : Want) (l : Land) (a : Answer)
+    (inc : ℕ) (given : Option ItemAnswer) → StandsAt old place t x → (m : MayMake old.scenario t x w l a)
+    → ((p : Settings) (h : List Event) → SeatIs place.seat p (Some h) → inc ≡ inc_of_want w (number h))
+    → ((p : Settings) (h : List Event) → SeatIs place.seat p (Some h) → MayBeHanded p h a → SeatIs seat p (Some (event p h a ∷ h)))
+    → ((p : Settings) (h : List Event) → SeatIs place.seat p (Some h) → MayBeHanded p h a → given ≡ item_answer p (event p h a ∷ h))
+    → IsHanded (record old { block = block }) (record place { seat = seat }) t x w m.job a inc given
+is-handed old block place seat t x w l a inc given stands m is_inc handed gives =
+    let there = seat-of-job old place t x w l a stands m in
+    let middle = stands.middle in
+    let p = settings old.scenario x in
+    record {
+      middle_is = record { data_sets = middle.data_sets; counts = middle.counts; journal = middle.journal; room = middle.room };
+      kept = stands.place.kept;
+      seat = handed p m.job there m.handed;
+      inc = is_inc p m.job there;
+      given = gives p m.job there m.handed;
+    }
 
 -- A choice by which an act that is wanted is made makes it of the place.
 abbrev pub MakesEntry : Middle → Place → List Entry → Site → Middle → Place → Want → Land → Answer → Type 0

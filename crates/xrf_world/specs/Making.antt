@@ -33,9 +33,9 @@ use Rattle.xrf_world.specs.declared.middle.Middle.{Middle}
 use Rattle.xrf_world.specs.declared.pair.Pair.{Pair}
 use Rattle.xrf_world.specs.declared.place.Place.{Place}
 use Rattle.xrf_world.specs.Counts.{CanCount}
-use Rattle.xrf_world.specs.Places.{CanTake}
-use Rattle.xrf_world.specs.Seats.{after_want}
-use Rattle.xrf_world.specs.Standing.{StandsAt, Stands}
+use Rattle.xrf_world.specs.Places.{CanTake, KeptIs}
+use Rattle.xrf_world.specs.Seats.{SeatIs, after_want}
+use Rattle.xrf_world.specs.Standing.{MiddleIs, StandsAt, Stands}
 use Rattle.xrf_world.specs.Wants.{act_of_want, is_write}
 
 -- a read is within its data set
@@ -83,6 +83,15 @@ pub record MayMake (s : Scen) (t : List Entry) (x : Site) (w : Want) (l : Land) 
   pub is_entry : entry_of_want s t x job w l (event (settings s x) job a ∷ job) ≡ entry
   pub after : hist s (entry ∷ t) x ≡ after_want w (event (settings s x) job a ∷ job)
   pub records : CanRecord s t x entry (item_answer (settings s x) (event (settings s x) job a ∷ job))
+
+-- The job of a place was handed the answer to the act that it wants: its seat is that of what it knows after it, and all
+-- else stands for the trace before the entry, which is of this incarnation. It gave the item taken last this answer.
+pub record IsHanded (middle : Middle) (place : Place) (t : List Entry) (x : Site) (w : Want) (job : List Event) (a : Answer) (made_by : ℕ) (gave : Option ItemAnswer) : Type 0 where
+  pub middle_is : MiddleIs middle t
+  pub kept : KeptIs place.kept middle.scenario t x
+  pub seat : SeatIs place.seat (settings middle.scenario x) (Some (event (settings middle.scenario x) job a ∷ job))
+  pub inc : made_by ≡ inc_of_want w (number job)
+  pub given : gave ≡ item_answer (settings middle.scenario x) (event (settings middle.scenario x) job a ∷ job)
 
 -- Where a choice is accepted by which an act that is wanted is made, it is answered by the trace: what it reads is within its
 -- data set, and its entry is that of the choice.

@@ -1,12 +1,12 @@
 //! What is counted of a trace: the tick, the confirmations, and the log.
 
-ghost use Rattle.std.specs.Prelude.{◌≡◌, ◌+◌, ◌^◌, ◌<◌, ◌≤◌, ◌||◌, ◌&&◌, ℕ, Bool, false, is_some, List, [], ◌∷◌, length, IfOk, slice_index_or};
+ghost use Rattle.std.specs.Prelude.{◌≡◌, ◌==◌, ◌<◌, ◌||◌, ◌&&◌, ℕ, Bool, false, is_some, List, [], ◌∷◌, length, IfOk, slice_index_or};
 ghost use Rattle.xrf_cavm.specs.Record.{inc_of_owner, inc_of_alt};
 ghost use Rattle.xrf_trace.specs.declared.entry.Entry.{Entry as Made};
 ghost use Rattle.xrf_trace.specs.Jobs.{known_of};
 ghost use Rattle.xrf_trace.specs.Scenario.{Scen};
-ghost use Rattle.xrf_trace.specs.Words.{tick_after, confirms, confirmed};
-ghost use Rattle.xrf_world.specs.Counts.{CountsAre, CanCount, IsMarked};
+ghost use Rattle.xrf_trace.specs.Words.{confirmed};
+ghost use Rattle.xrf_world.specs.Counts.{CountsAre, CanCount};
 
 use crate::log_count::LogCount;
 use std::alloc::{AllocError, Global};
@@ -26,25 +26,13 @@ pub(crate) struct Counts {
     pub(crate) log: LogCount,
 }
 
-fn tick_after(act: &Act, tick: Tick) -> Tick
-    requires { tick + 1 < 2 ^ 32 }
-    ensures { result ≡ tick_after act.now tick }
-{
-    match act {
-        Act::Tick => tick + 1,
-        _ => tick,
-    }
-}
-
-fn mark(marks: &mut [bool], act: &Act)
-    requires { IsMarked (length marks.old) act.now }
+fn mark(marks: &mut [bool], number: Inc)
+    requires { number < length marks.old }
     ensures marks { (f : ℕ → Bool) → ((n : ℕ) → slice_index_or marks.old n false ≡ f n)
-        → (n : ℕ) → slice_index_or marks.new n false ≡ (confirms act.now n || f n) }
+        → (n : ℕ) → slice_index_or marks.new n false ≡ (number == n || f n) }
     ensures length { length marks.new ≡ length marks.old }
 {
-    if let Act::Confirm(n) = act {
-        marks[*n as usize] = true;
-    }
+    marks[number as usize] = true;
 }
 
 fn no_marks(alloc: Global, count: usize) -> Result<Vec<bool>, AllocError>
@@ -73,9 +61,12 @@ impl Counts {
         requires { (s : Scen) × (t : List Made) × CountsAre self.old s t × CanCount s t entry.now }
         ensures { (s : Scen) (t : List Made) → CountsAre self.old s t → CanCount s t entry.now → CountsAre self.new s (entry.now ∷ t) }
     {
-        self.tick = tick_after(&entry.act, self.tick);
-        mark(&mut self.confirmed, &entry.act);
-        self.log.follow(&entry.act, &entry.land);
+        match &entry.act {
+            Act::Tick => self.tick += 1,
+            Act::Confirm(number) => mark(&mut self.confirmed, *number),
+            Act::LogOpen(_, rec) => self.log.follow_open(rec, &entry.land),
+            _ => {}
+        }
     }
 
     /// Whether a number is confirmed.

@@ -1,14 +1,13 @@
 //! What is counted of the log.
 
-ghost use Rattle.std.specs.Prelude.{◌≡◌, ℕ, ◌+◌, ◌<◌, ◌≤◌, not, false, List, [], ◌∷◌, length, filter, IfOk, vec_len, vec_capacity};
+ghost use Rattle.std.specs.Prelude.{◌≡◌, ℕ, ◌+◌, ◌<◌, ◌≤◌, not, true, false, if◌then◌else◌, List, [], ◌∷◌, length, filter, IfOk, vec_len, vec_capacity};
 ghost use Rattle.std.specs.List.{list_any};
 ghost use Rattle.xrf_log.specs.Flight.{flight};
 ghost use Rattle.xrf_logrec.specs.LogRecords.{same_unit};
 ghost use Rattle.xrf_logrec.specs.declared.records.LogRec.{LogRec as Rec};
 ghost use Rattle.xrf_trace.specs.Landing.{opens};
-ghost use Rattle.xrf_trace.specs.Log.{log_after};
 ghost use Rattle.xrf_trace.specs.declared.entry.Land.TheVariants as land;
-ghost use Rattle.xrf_world.specs.Counts.{LogIs, Joins, JoinsIf, commits};
+ghost use Rattle.xrf_world.specs.Counts.{LogIs, Joins, commits};
 ghost use Rattle.xrf_world.specs.Report.{counts_of_log};
 
 use crate::state::LogCounts;
@@ -17,7 +16,7 @@ use xrf_base::UnitId;
 use xrf_gated::OPEN;
 use xrf_logrec::LogRec;
 use xrf_setup::Landing;
-use xrf_trace::{Act, Land};
+use xrf_trace::Land;
 
 /// What is counted of the log: its records, the units that are committed, and the units in flight, by first put.
 #[derive(Drop)]
@@ -126,16 +125,16 @@ impl LogCount {
         join_unit(&mut self.flight, rec);
     }
 
-    /// After one entry more.
-    pub(crate) fn follow(&mut self, act: &Act, land: &Land)
-        requires joins { (slots : ℕ) × (records : List Rec) × LogIs self.old records × JoinsIf slots records act.now land.now × (slots ≤ vec_capacity self.old.flight) }
-        ensures log { (slots : ℕ) (records : List Rec) → LogIs self.old records → JoinsIf slots records act.now land.now → LogIs self.new (log_after act.now land.now records) }
+    /// After a LOGOPEN of a record, which joins the log where its gate lands open.
+    pub(crate) fn follow_open(&mut self, rec: &LogRec, land: &Land)
+        requires joins { (slots : ℕ) × (records : List Rec) × LogIs self.old records × (opens land.now ≡ true → Joins slots records rec.now)
+            × (slots ≤ vec_capacity self.old.flight) }
+        ensures log { (slots : ℕ) (records : List Rec) → LogIs self.old records → (opens land.now ≡ true → Joins slots records rec.now)
+            → LogIs self.new (if opens land.now then rec.now ∷ records else records) }
         ensures capacity { vec_capacity self.new.flight ≡ vec_capacity self.old.flight }
     {
-        if let Act::LogOpen(_, rec) = act {
-            if opens(land) {
-                self.join(rec);
-            }
+        if opens(land) {
+            self.join(rec);
         }
     }
 

@@ -1,12 +1,13 @@
 //! The acts of jobs, as they are made.
 
 ghost use Rattle.std.specs.Prelude.{◌≡◌, ◌∷◌, List, Some};
+ghost use Rattle.xrf_history.specs.declared.answer.Answer.{Answer as Told};
 ghost use Rattle.xrf_history.specs.declared.settings.Settings.{Settings};
 ghost use Rattle.xrf_history.specs.Events.{Event};
 ghost use Rattle.xrf_history.specs.Reserving.{last_decision};
 ghost use Rattle.xrf_trace.specs.declared.entry.Entry.{Entry as Made};
 ghost use Rattle.xrf_trace.specs.Words.{who_at};
-ghost use Rattle.xrf_world.specs.Making.{MayMake, inc_of_want};
+ghost use Rattle.xrf_world.specs.Making.{IsHanded, MayMake, inc_of_want};
 ghost use Rattle.xrf_world.specs.Seats.{SeatIs, after_want};
 ghost use Rattle.xrf_world.specs.Standing.{StandsAt};
 ghost use Rattle.xrf_world.specs.Wants.{act_of_want, decide_act};
@@ -15,7 +16,7 @@ use crate::middle::Middle;
 use crate::place::Place;
 use crate::seat::Seat;
 use crate::wants::act_of_want;
-use xrf_base::{Inc, Site};
+use xrf_base::{Inc, ItemAnswer, Site};
 use xrf_cavm::Decided;
 use xrf_history::{Answer, Want};
 use xrf_trace::{Act, Entry, Land, Who};
@@ -68,6 +69,36 @@ fn vacate_if_ended(seat: &mut Seat, want: &Want)
     }
 }
 
+/// Makes the act of a job that was handed the answer to it: its entry, of this incarnation, joins the journal, and what
+/// is to land of it lands. The job gave the item taken last this answer.
+pub(crate) fn enter(
+    middle: &mut Middle,
+    place: &mut Place,
+    site: Site,
+    want: &Want,
+    land: &Land,
+    inc: Inc,
+    given: Option<ItemAnswer>,
+)
+    requires { (t : List Made) × (a : Told) × (m : MayMake middle.old.scenario t site want.now land.now a)
+        × IsHanded middle.old place.old t site want.now m.job a inc given }
+    ensures made { (t : List Made) (a : Told) (m : MayMake middle.old.scenario t site want.now land.now a)
+        → IsHanded middle.old place.old t site want.now m.job a inc given → StandsAt middle.new place.new (m.entry ∷ t) site }
+    ensures scenario { middle.new.scenario ≡ middle.old.scenario }
+{
+    let number = place.kept.items.next();
+    let entry = Entry {
+        tick: middle.counts.tick,
+        who: who_at(site),
+        inc,
+        act: act_of(&place.seat, number, want),
+        land: *land,
+    };
+    vacate_if_ended(&mut place.seat, want);
+    middle.follow(&entry);
+    place.kept.follow(&entry, given);
+}
+
 /// Makes an act that the job at a site wants, lands what is to land of it, and hands the job an answer.
 pub(crate) fn make_act(
     answer: &Answer,
@@ -83,16 +114,6 @@ pub(crate) fn make_act(
     ensures scenario { middle.new.scenario ≡ middle.old.scenario }
 {
     let inc = inc_of_want(want, place.seat.inc());
-    let number = place.kept.items.next();
     let given = place.seat.take(answer);
-    let entry = Entry {
-        tick: middle.counts.tick,
-        who: who_at(site),
-        inc,
-        act: act_of(&place.seat, number, want),
-        land: *land,
-    };
-    vacate_if_ended(&mut place.seat, want);
-    middle.follow(&entry);
-    place.kept.follow(&entry, given);
+    enter(middle, place, site, want, land, inc, given);
 }

@@ -20,6 +20,8 @@ pub(crate) struct Middle {
     pub(crate) counts: Counts,
     // oldest first
     pub(crate) journal: Vec<Entry>,
+    // where a block of the log is copied for the job that reads it
+    pub(crate) block: Box<[u8; 4096]>,
 }
 
 impl Middle {

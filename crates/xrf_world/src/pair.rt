@@ -34,11 +34,13 @@ impl Pair {
         let a = Place::new(alloc, scenario, Site::A)?;
         let b = Place::new(alloc, scenario, Site::B)?;
         let scenario = scenario.copy()?;
+        let block = Box::new(alloc, [0; 4096])?;
         let middle = Middle {
             scenario,
             data_sets,
             counts,
             journal,
+            block,
         };
         Ok(Pair { middle, a, b })
     }

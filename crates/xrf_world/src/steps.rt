@@ -13,7 +13,7 @@ ghost use Rattle.xrf_world.specs.Making.{MakesAt, IsMade};
 ghost use Rattle.xrf_world.specs.Standing.{StandsAt, Goes};
 ghost use Rattle.xrf_world.specs.Wants.{reads_block};
 
-use crate::making::make_act;
+use crate::making::{enter, make_act};
 use crate::middle::Middle;
 use crate::place::Place;
 use crate::reading::{block_answer, is_only_done};
@@ -30,9 +30,12 @@ fn make_block_read(middle: &mut Middle, place: &mut Place, site: Site, block: u3
     ensures { (t : List Made) (c : Choice) → StandsAt middle.old place.old t site → IsMade middle.old.scenario t site (wants.LogRead block) land.now c
         → MakesAt middle.old place.old t site c (Ok tt) middle.new place.new }
 {
-    let mut bytes = [0; 4096];
-    let answer = block_answer(&middle.data_sets, block, place.seat.has_read, &mut bytes);
-    make_act(&answer, middle, place, site, &Want::LogRead(block), land);
+    let want = Want::LogRead(block);
+    let bytes = &mut middle.block;
+    let answer = block_answer(&middle.data_sets, block, place.seat.has_read, bytes);
+    let inc = place.seat.inc();
+    let given = place.seat.take(&answer);
+    enter(middle, place, site, &want, land, inc, given);
 }
 
 // an act is made of which its job is told that it is done

@@ -1,7 +1,6 @@
 -- What the first 8 bytes of a slot and the bytes behind them say of what it holds.
-use Rattle.std.proofs.Common.{◌≡◌, ◌≤◌, ◌-◌, ◌==◌, ◌&&◌, ℕ, zero, suc, Bool, true, false, if◌then◌else◌, Option, Some, None, List, [], ◌∷◌, ◌++◌, length, take, drop, replicate, nat_eq, refl, sym, ◌∙◌, ap, subst, arith}
+use Rattle.std.proofs.Common.{◌≡◌, ◌≤◌, ◌-◌, ◌==◌, ◌&&◌, ℕ, zero, suc, Bool, true, if◌then◌else◌, Some, None, List, [], ◌∷◌, ◌++◌, length, take, drop, replicate, nat_eq, refl, sym, ◌∙◌, ap, subst, arith}
 use Rattle.std.specs.List.{list_all, position_or_len}
-use Rattle.std.specs.Option.{option_map, option_and_then}
 use Rattle.std.specs.Cmp.Lexicographic.{pointwise, same_text}
 use Rattle.std.proofs.lemmas.List.{length-take, length-drop, take-append-drop}
 use Rattle.byteorder.specs.Endian.{big_number, big_bytes}
@@ -11,7 +10,6 @@ use Rattle.xrf_base.specs.Values.{is_value, padded_value, slot_reading}
 use Rattle.xrf_base.specs.Zeros.{are_zeros}
 use Rattle.xrf_base.proofs.NumberLaws.{number_part}
 use Rattle.xrf_base.proofs.Tails.{pointwise-tail, is_replicate}
-use Rattle.xrf_base.proofs.Texts.{slot_reading-some}
 
 -- a front is taken again
 take-again : (n : ℕ) (xs : List ℕ) → take (length (take n xs)) xs ≡ take n xs
@@ -52,18 +50,6 @@ fronted : (slot : List ℕ) (front : ℕ) → length slot ≡ 32 → AreBytes sl
 fronted slot front long fits is =
     sym (take-append-drop 8 slot) ∙ ap (λ l. l ++ drop 8 slot) (number_part slot 0 8 (omega arith) fits ∙ ap (big_bytes 8) (sym is))
 
-both : (value : Bool) (field text : List ℕ)
-    → option_map Some (if value && pointwise nat_eq (padded 24 text) field then Some text else None)
-    ≡ option_map Some (option_and_then (λ v. if pointwise nat_eq (padded 24 v) field then Some v else None) (if value then Some text else None))
-both true field text = refl
-both false field text = refl
-
--- a slot with a record's front holds what its field spells
-pub record_slot : (slot : List ℕ) (front : ℕ) → length slot ≡ 32 → AreBytes slot → front ≡ big_number 8 slot → front ≡ 72057594037927936 → option_map Some (padded_value (drop 8 slot)) ≡ slot_reading slot
-record_slot slot front long fits is mark =
-    let whole : slot ≡ (1 ∷ replicate 7 0) ++ drop 8 slot = fronted slot front long fits is ∙ ap (λ n. big_bytes 8 n ++ drop 8 slot) mark in
-    both (is_value (unpadded (drop 8 slot))) (drop 8 slot) (unpadded (drop 8 slot)) ∙ ap slot_reading (sym whole)
-
 -- a slot that begins with zero bytes and goes on so is empty
 pub empty_slot : (slot : List ℕ) (front : ℕ) → length slot ≡ 32 → AreBytes slot → front ≡ big_number 8 slot → front ≡ 0 → are_zeros (drop 8 slot) ≡ true → Some None ≡ slot_reading slot
 empty_slot slot front long fits is none rest =
@@ -71,19 +57,6 @@ empty_slot slot front long fits is none rest =
     let whole : slot ≡ replicate 8 0 ++ drop 8 slot = fronted slot front long fits is ∙ ap (λ n. big_bytes 8 n ++ drop 8 slot) none in
     let all : slot ≡ replicate 32 0 = whole ∙ ap (λ l. replicate 8 0 ++ l) (is_replicate 0 (drop 8 slot) rest ∙ ap (λ n. replicate n 0) count) in
     ap slot_reading (sym all)
-
--- and no other bytes are a slot
-pub no_slot_else : (slot : List ℕ) (front : ℕ) → front ≡ big_number 8 slot → (front ≡ 72057594037927936 → ⊥) → (front ≡ 0 → are_zeros (drop 8 slot) ≡ true → ⊥) → None ≡ slot_reading slot
-no_slot_else slot front is other filled = by (slot_reading slot) refl
-  where
-    by : (r : Option (Option (List ℕ))) → slot_reading slot ≡ r → None ≡ r
-    by None e = refl
-    by (Some None) e =
-        let spelled = (slot_reading-some slot None e).1 in
-        absurd (filled (is ∙ ap (big_number 8) spelled) (ap (λ s. are_zeros (drop 8 s)) spelled))
-    by (Some (Some value)) e =
-        let spelled = (slot_reading-some slot (Some value) e).1 in
-        absurd (other (is ∙ ap (big_number 8) spelled))
 
 -- the text of a field is its front
 pub front_is : (field text : List ℕ) → text ≡ unpadded field → take (length text) field ≡ text

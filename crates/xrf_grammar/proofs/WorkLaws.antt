@@ -135,3 +135,13 @@ message_read format ws others behind more region kind word first second third na
     let all : ws ≡ region ∷ kind ∷ word ∷ more = first ∙ ap (λ (l : List (List ℕ)). region ∷ l) (second ∙ ap (λ (l : List (List ℕ)). kind ∷ l) third) in
     subst (λ (l : List (List ℕ)). Spells (settings_of format) (codes "CLT" ∷ l) Clt) (sym all)
     (record { form = form.CltWto; among = in_both format 19 form.CltWto refl refl; fit = (refl, (named, (is, tt))); line = refl })
+
+-- the words behind WORK of a put
+pub put_read : (format : Format) (ws w1 w2 w3 w4 more : List (List ℕ)) (word key name number value : List ℕ) (site : Place) (unit : List ℕ) (n : ℕ) (v : List ℕ)
+    → ws ≡ word ∷ w1 → w1 ≡ key ∷ w2 → w2 ≡ name ∷ w3 → w3 ≡ number ∷ w4 → w4 ≡ value ∷ more → are_some more ≡ false
+    → key ≡ codes "PUT" → site_of word ≡ Some site → name_of name ≡ Some unit → number_of number ≡ Some n → value_of value ≡ Some v
+    → Spells (settings_of format) (codes "WORK" ∷ ws) (Work site (item.Put unit n v))
+put_read format ws w1 w2 w3 w4 more word key name number value site unit n v e1 e2 e3 e4 e5 none is at named num val =
+    let all : ws ≡ word ∷ key ∷ name ∷ number ∷ value ∷ [] =
+    e1 ∙ ap (λ (l : List (List ℕ)). word ∷ l) (e2 ∙ ap (λ (l : List (List ℕ)). key ∷ l) (e3 ∙ ap (λ (l : List (List ℕ)). name ∷ l) (e4 ∙ ap (λ (l : List (List ℕ)). number ∷ l) (e5 ∙ ap (λ (l : List (List ℕ)). value ∷ l) (no-words more none))))) in
+    subst (λ (l : List (List ℕ)). Spells (settings_of format) (codes "WORK" ∷ l) (Work site (item.Put unit n v))) (sym all) (put_spelled format key name number value unit n v is named num val word site at)

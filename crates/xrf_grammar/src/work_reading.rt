@@ -1,15 +1,14 @@
-//! The items that most lines of work have, read word by word.
+//! The items that most lines of work have beside puts, read word by word.
 
-ghost use Rattle.std.specs.Prelude.{◌≡◌, ◌≤◌, ◌∷◌, [], IfSome, Some};
+ghost use Rattle.std.specs.Prelude.{◌≡◌, ◌∷◌, [], IfSome};
 ghost use Rattle.xrf_text.specs.Text.{texts};
 ghost use Rattle.xrf_grammar.specs.Grammar.{SpellsItem, Spells};
-ghost use Rattle.xrf_grammar.specs.Numbers.{number_of};
 ghost use Rattle.xrf_grammar.specs.Table.{settings_of};
 
 use crate::line::Line;
 use crate::number::read_number;
 use crate::operand::{read_class, read_site};
-use xrf_base::{Item, Name8, Value};
+use xrf_base::{Item, Name8};
 use xrf_setup::Format;
 
 /// The item that a word and a name spell.
@@ -46,24 +45,11 @@ fn read_numbered(format: Format, word: &[u8], name: &[u8], number: &[u8]) -> Opt
     None
 }
 
-/// The item that a word, a name, a number and a value spell.
-fn read_put(format: Format, word: &[u8], name: &[u8], number: &[u8], value: &[u8]) -> Option<Item>
-    ensures { IfSome result (λ item. SpellsItem format (word.now ∷ name.now ∷ number.now ∷ value.now ∷ []) item) }
-{
-    if word != b"PUT".as_slice() {
-        return None;
-    }
-    let unit = Name8::read(name)?;
-    let number = read_number(number)?;
-    Some(Item::Put(unit, number, Value::read(value)?))
-}
-
 /// The item that a word and its operands spell.
 fn read_item(format: Format, word: &[u8], operands: &[&[u8]]) -> Option<Item>
     ensures { IfSome result (λ item. SpellsItem format (word.now ∷ texts operands.now) item) }
 {
     match operands {
-        [name, number, value] => read_put(format, word, name, number, value),
         [name, number] => read_numbered(format, word, name, number),
         [name] => read_named(format, word, name),
         _ => None,

@@ -25,6 +25,7 @@ impl Slot {
     }
 
     // writes the 64 bytes of the slot
+    #[inline(always)]
     fn write(&self, into: &mut [u8])
         requires { length into.old ≡ 64 }
         ensures { into.new ≡ bytes_of self.now }

@@ -1,4 +1,4 @@
-use Rattle.std.proofs.Common.{ℕ, ◌&&◌, sym, subst}
+use Rattle.std.proofs.Common.{◌&&◌, sym, subst}
 use Rattle.xrf_trace.specs.declared.entry.Act.{Act}
 use Rattle.xrf_trace.specs.Devices as trace
 use Rattle.xrf_trace.specs.Landing.{lands}

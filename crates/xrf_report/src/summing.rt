@@ -3,6 +3,7 @@
 ghost use Rattle.std.specs.Prelude.{◌≡◌, ◌++◌, ◌&&◌, OnOk, IfOk, reverse};
 ghost use Rattle.xrf_cavm.specs.Record.{inc_of_owner};
 ghost use Rattle.xrf_ctl.specs.Control.{ControlRecord};
+ghost use Rattle.xrf_report.specs.Summary as summary;
 ghost use Rattle.xrf_report.specs.Summary.{stops, throughs, counted_line, made_lines, owner_lines, unit_lines, head_line, summary_text};
 ghost use Rattle.xrf_trace.specs.Landing.{is_stop, lands};
 ghost use Rattle.xrf_trace.specs.Throughs.{changes_owner};
@@ -32,18 +33,6 @@ fn lands(land: &Land) -> bool
         Land::Stop(landing) => matches!(landing, Landing::All),
         Land::Fail(landing) => matches!(landing, Landing::All),
     }
-}
-
-fn count_stops(journal: &[Entry]) -> u64
-    ensures { result ≡ stops (reverse journal.now) }
-{
-    let mut count = 0u64;
-    for entry in journal {
-        if is_stop(&entry.land) {
-            count += 1;
-        }
-    }
-    count
 }
 
 fn inc_of(owner: Option<Owner>) -> Inc
@@ -81,18 +70,29 @@ fn owner_after(owner: Inc, entry: &Entry) -> Inc
     }
 }
 
-fn count_throughs(journal: &[Entry]) -> u64
-    ensures { result ≡ throughs (reverse journal.now) }
+/// How many entries of a journal are stops, and how many are throughs.
+struct EntryCounts {
+    stops: u64,
+    throughs: u64,
+}
+
+fn count_entries(journal: &[Entry]) -> EntryCounts
+    ensures stops { result.stops ≡ stops (reverse journal.now) }
+    ensures throughs { result.throughs ≡ throughs (reverse journal.now) }
 {
-    let mut count = 0u64;
+    let mut stops = 0u64;
+    let mut throughs = 0u64;
     let mut owner = 0;
     for entry in journal {
+        if is_stop(&entry.land) {
+            stops += 1;
+        }
         if is_through(owner, entry) {
-            count += 1;
+            throughs += 1;
         }
         owner = owner_after(owner, entry);
     }
-    count
+    EntryCounts { stops, throughs }
 }
 
 fn put_counted(alloc: Global, out: &mut Vec<u8>, word: &[u8], number: u64) -> Result<(), AllocError>
@@ -101,20 +101,31 @@ fn put_counted(alloc: Global, out: &mut Vec<u8>, word: &[u8], number: u64) -> Re
     put(alloc, out, &[Text(word), Number(number), Text(b"\n")])
 }
 
-fn put_made_lines(alloc: Global, out: &mut Vec<u8>, world: &World) -> Result<(), AllocError>
+fn put_made_lines(
+    alloc: Global,
+    out: &mut Vec<u8>,
+    world: &World,
+    stops: u64,
+) -> Result<(), AllocError>
+    requires { stops ≡ summary.stops world.now.trace }
     ensures { OnOk result (out.new.items ≡ out.old.items ++ made_lines world.now.trace) }
 {
-    let journal = world.journal();
-    put_counted(alloc, out, b"CHOICES ", journal.len() as u64)?;
+    put_counted(alloc, out, b"CHOICES ", world.journal().len() as u64)?;
     put_counted(alloc, out, b"TICKS ", world.now() as u64)?;
-    put_counted(alloc, out, b"STOPS ", count_stops(journal))
+    put_counted(alloc, out, b"STOPS ", stops)
 }
 
-fn put_owner_lines(alloc: Global, out: &mut Vec<u8>, world: &World) -> Result<(), AllocError>
+fn put_owner_lines(
+    alloc: Global,
+    out: &mut Vec<u8>,
+    world: &World,
+    throughs: u64,
+) -> Result<(), AllocError>
+    requires { throughs ≡ summary.throughs world.now.trace }
     ensures { OnOk result (out.new.items ≡ out.old.items ++ owner_lines world.now.trace) }
 {
     put_counted(alloc, out, b"INCARNATIONS ", world.control().last() as u64)?;
-    put_counted(alloc, out, b"THROUGHS ", count_throughs(world.journal()))
+    put_counted(alloc, out, b"THROUGHS ", throughs)
 }
 
 fn put_unit_lines(alloc: Global, out: &mut Vec<u8>, world: &World) -> Result<(), AllocError>
@@ -147,8 +158,9 @@ pub fn summary(alloc: Global, seed: u64, turns: u32, world: &World) -> Result<Ve
 {
     let mut out = Vec::new(alloc);
     put_head(alloc, &mut out, seed, turns)?;
-    put_made_lines(alloc, &mut out, world)?;
-    put_owner_lines(alloc, &mut out, world)?;
+    let counts = count_entries(world.journal());
+    put_made_lines(alloc, &mut out, world, counts.stops)?;
+    put_owner_lines(alloc, &mut out, world, counts.throughs)?;
     put_unit_lines(alloc, &mut out, world)?;
     put(alloc, &mut out, &[Text(b"DONE\n")])?;
     Ok(out)

@@ -45,6 +45,7 @@ least test last None is f = each
     by : (n : ℕ) → 1 ≤ n → (last < n) ⊎ (n ≤ last) → test n ≡ false
     by n low (inl great) = is.beyond n great
     by n low (inr small) = f n low small
+
     each : (n : ℕ) → test n ≡ false
     each zero = is.none
     each (suc n) = by (suc n) (omega arith) (cases_lt last (suc n))

@@ -72,6 +72,7 @@ fn vacate_if_ended(seat: &mut Seat, want: &Want)
 /// Makes the act of a job that was handed the answer to it: its entry, of this incarnation, joins the journal, and what
 /// is to land of it lands. The job gave the item taken last this answer.
 #[inline(always)]
+#[inline(always)]
 pub(crate) fn enter(
     middle: &mut Middle,
     place: &mut Place,
@@ -101,6 +102,7 @@ pub(crate) fn enter(
 }
 
 /// Makes an act that the job at a site wants, lands what is to land of it, and hands the job an answer.
+#[inline(always)]
 pub(crate) fn make_act(
     answer: &Answer,
     middle: &mut Middle,

@@ -71,6 +71,7 @@ fn owner_after(owner: Inc, entry: &Entry) -> Inc
 }
 
 /// How many entries of a journal are stops, and how many are throughs.
+#[derive(Drop)]
 struct EntryCounts {
     stops: u64,
     throughs: u64,

@@ -72,7 +72,6 @@ fn vacate_if_ended(seat: &mut Seat, want: &Want)
 /// Makes the act of a job that was handed the answer to it: its entry, of this incarnation, joins the journal, and what
 /// is to land of it lands. The job gave the item taken last this answer.
 #[inline(always)]
-#[inline(always)]
 pub(crate) fn enter(
     middle: &mut Middle,
     place: &mut Place,

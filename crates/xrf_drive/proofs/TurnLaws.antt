@@ -1,13 +1,18 @@
 -- What one turn more makes of a run.
-use Rattle.std.proofs.Common.{◌≡◌, ◌<◌, ◌+◌, ℕ, Bool, true, false, List, [], ◌∷◌, ◌++◌, length, Option, Some, None, unwrap_or, Result, Ok, Err, refl, sym, ◌∙◌, ap, subst, add-one, arith}
+use Rattle.std.proofs.Common.{◌≡◌, ◌<◌, ◌+◌, ℕ, Bool, true, false, List, [], ◌∷◌, ◌++◌, length, Option, Some, None, is_none, is_some, if◌then◌else◌, unwrap_or, Result, Ok, Err, refl, sym, ◌∙◌, ap, subst, add-one, arith}
 use Rattle.rand_pcg.specs.Lcg.{Lcg}
 use Rattle.rand_pcg.specs.Pcg.{pcg32}
 use Rattle.xrf_base.specs.declared.site.Site.{Site}
 use Rattle.xrf_base.specs.declared.site.Site.TheVariants as site
+use Rattle.xrf_history.specs.Events.{Event}
 use Rattle.xrf_setup.specs.declared.choice.Choice.{Choice}
 use Rattle.xrf_setup.specs.declared.choice.Choice.TheVariants as choice
 use Rattle.xrf_trace.specs.declared.entry.Entry.{Entry}
 use Rattle.xrf_trace.specs.declared.entry.Refused.{Refused}
+use Rattle.xrf_trace.specs.declared.entry.Refused.TheVariants.{NotEnabled}
+use Rattle.xrf_trace.specs.Acts.{act_by}
+use Rattle.xrf_trace.specs.Jobs.{hist}
+use Rattle.xrf_trace.specs.Refusals.{is_next, may_step, unless}
 use Rattle.xrf_trace.specs.Runs.{outcome, Refusal, run, run_from}
 use Rattle.xrf_trace.specs.Scenario.{Scen, other}
 use Rattle.xrf_world.specs.Runs.{Run, Made, Applied}
@@ -35,6 +40,20 @@ in_place old before new None made other tried not_made applied = subst (λ (r : 
 pub is_made : (old new : Run) (c : Option Choice) (made : Bool) (other : Choice) → Tried old c made new → made ≡ true → Applied old (unwrap_or c other) (Ok tt) new
 is_made old new (Some c) made other tried is = tried.1
 is_made old new None made other tried is = absurd (let no = tried.0 in cc)
+
+-- where no job is there, no STEP is
+no-job : (job : Option (List Event)) → is_some job ≡ false → job ≡ None
+no-job None none = refl
+no-job (Some h) none = absurd (cc)
+
+pub without_job : (r : Run) (x : Site) → is_some (hist r.scenario r.trace x) ≡ false → Tried r (step_at r.scenario r.trace x) false r
+without_job r x none =
+    let s = r.scenario in
+    let t = r.trace in
+    let refused : step_at s t x ≡ None =
+    ap (λ (job : Option (List Event)). if is_none (unless (is_next (may_step t) (act_by s t x job)) NotEnabled) then Some (choice.Step x) else None)
+    (no-job (hist s t x) none) in
+    subst (λ (c : Option Choice). Tried r c false r) (sym refused) (refl, refl)
 
 -- the first of two choices, or else a third
 or-first : (a b : Option Choice) (c : Choice) → unwrap_or a (unwrap_or b c) ≡ unwrap_or (first_of a b) c

@@ -75,12 +75,24 @@ fn exit(world: &mut World, site: Site) -> bool
     }
 }
 
-// STEP of a site where it is enabled
+fn make_step(world: &mut World, site: Site) -> bool
+    requires room { length world.old.trace < CHOICES_MOST }
+    ensures { Tried world.old (step_at world.old.scenario world.old.trace site) result world.new }
+{
+    world.step(site).is_ok()
+}
+
+// STEP of a site where it is enabled: none is where no job is there
+#[tactic(auto, using(crate::proofs::TurnLaws::without_job))]
 fn step(world: &mut World, site: Site) -> bool
     requires room { length world.old.trace < CHOICES_MOST }
     ensures { Tried world.old (step_at world.old.scenario world.old.trace site) result world.new }
 {
-    world.has_job(site) && world.step(site).is_ok()
+    if world.has_job(site) {
+        make_step(world, site)
+    } else {
+        false
+    }
 }
 
 fn tick(world: &mut World)

@@ -1,5 +1,5 @@
 -- A search up to the number that was given last finds the least of all numbers that may be confirmed.
-use Rattle.std.proofs.Common.{◌≡◌, ◌≤◌, ◌<◌, ◌⊎◌, inl, inr, ℕ, zero, suc, Bool, true, false, ◌&&◌, not, nat_le, is_none, List, Option, Some, None, refl, ap, ◌∙◌, arith}
+use Rattle.std.proofs.Common.{◌≡◌, ◌≤◌, ◌<◌, ◌⊎◌, inl, inr, ℕ, zero, suc, Bool, true, false, ◌&&◌, not, nat_le, is_none, List, Option, Some, None, refl, sym, subst, ap, ◌∙◌, arith}
 use Rattle.std.proofs.lemmas.Bool.{cases_lt, leb-true}
 use Rattle.xrf_trace.specs.declared.entry.Entry.{Entry}
 use Rattle.xrf_trace.specs.declared.entry.Refused.TheVariants.{Dishonest}
@@ -70,4 +70,4 @@ confirmable-within s t = record {
 }
 
 pub is_least : (s : Scen) (t : List Entry) (r : Option ℕ) → r ≡ least_confirmable s t → IsLeast (may_be_confirmed s t) r
-is_least s t r refl = least (may_be_confirmed s t) (control t).last (least_confirmable s t) (confirmable-within s t) (found (may_be_confirmed s t) (control t).last)
+is_least s t r is = subst (λ (o : Option ℕ). IsLeast (may_be_confirmed s t) o) (sym is) (least (may_be_confirmed s t) (control t).last (least_confirmable s t) (confirmable-within s t) (found (may_be_confirmed s t) (control t).last))

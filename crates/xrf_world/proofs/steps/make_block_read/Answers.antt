@@ -51,7 +51,7 @@ enter-requires c =
       t,
       answer,
       m,
-      is-handed old c.block_answer-answer.new.bytes place c.take-given.new.self t x w l answer c.inc.result c.take-given.result stands m is_inc
+      is-handed old _ place c.take-given.new.self t x w l answer c.inc.result c.take-given.result stands m is_inc
           c.take-given.ensures.seat c.take-given.ensures.answer,
     )
 
@@ -72,7 +72,7 @@ returns c = λ t chosen stands made.
     let is_inc : (p : Settings) (h : List Event) → SeatIs place.seat p (Some h) → c.inc.result ≡ number h = λ p h there. c.inc.ensures p (Some h) there in
     let makes : MakesEntry old place t x new after w l answer =
     λ m here. c.enter.ensures.made t answer m
-    (is-handed old c.block_answer-answer.new.bytes place c.take-given.new.self t x w l answer c.inc.result c.take-given.result here m is_inc
+    (is-handed old _ place c.take-given.new.self t x w l answer c.inc.result c.take-given.result here m is_inc
     c.take-given.ensures.seat c.take-given.ensures.answer) in
     act-made old place t x chosen new after w l (answer_of s t x made.job w)
     (subst (λ (a : Answer). MakesEntry old place t x new after w l a)

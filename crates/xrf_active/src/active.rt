@@ -80,6 +80,7 @@ impl Active {
     }
 
     /// The act that it wants next.
+    #[inline(always)]
     pub fn want(&self) -> Want
         requires { (h : List Event) × Stands self.now h × (length h < 16386) }
         ensures { (h : List Event) → Stands self.now h → result ≡ next self.now.settings h }

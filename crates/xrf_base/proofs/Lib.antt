@@ -1,3 +1,5 @@
 pub mod Texts
 pub mod NumberLaws
 pub mod NameLaws
+pub mod Tails
+pub mod SlotLaws

@@ -3,3 +3,4 @@ pub mod Names
 pub mod Values
 pub mod Ranges
 pub mod Numbers
+pub mod Zeros

@@ -20,6 +20,10 @@ IsValue text = IsTrue (is_value text)
 abbrev pub value_of : List ℕ → Option (List ℕ)
 value_of text = if is_value text then Some text else None
 
+-- The value that a field of 24 bytes spells: the value, and blanks up to 24.
+abbrev pub padded_value : List ℕ → Option (List ℕ)
+padded_value field = if is_value (unpadded field) && pointwise nat_eq (padded 24 (unpadded field)) field then Some (unpadded field) else None
+
 -- The 32 bytes of a file slot. An empty slot is all zero. A record has 1, seven zero bytes, and its
 -- value padded with blanks to 24 bytes.
 abbrev pub slot_of : Option (List ℕ) → List ℕ

@@ -8,6 +8,7 @@ pub mod names;
 pub mod numbers;
 pub mod site;
 pub mod values;
+mod zeros;
 
 pub use blanks::padded_array;
 pub use items::{Item, ItemAnswer, UnitId};
@@ -15,6 +16,7 @@ pub use limits::Limits;
 pub use names::Name8;
 pub use site::{Inc, Site, Takeovr, Tick};
 pub use values::Value;
+pub use zeros::is_zero_from;
 
 #[cfg(test)]
 mod tests;

@@ -1,13 +1,15 @@
 //! Values of file records, and the file slot in which a record lies.
 
-ghost use Rattle.std.specs.Prelude.{◌≡◌, ◌≤◌, ℕ, List, Option, Some, None, if◌then◌else◌, IfSome, IfNone, length, take, drop, nat_eq};
+ghost use Rattle.std.specs.Prelude.{◌≡◌, ◌==◌, ◌≤◌, ℕ, List, Option, Some, IfSome, IfNone, length, take, drop, nat_eq};
 ghost use Rattle.std.specs.List.{list_all};
 ghost use Rattle.std.specs.Cmp.{partial_equiv_from_equiv};
 ghost use Rattle.std.specs.Cmp.Lexicographic.{pointwise, nat_list_eq_equiv};
 ghost use Rattle.xrf_base.specs.Padding.{padded, made_again};
-ghost use Rattle.xrf_base.specs.Values.{IsValue, is_value, is_value_byte, value_of, slot_of, SlotIs, slot_reading, record_reading};
+ghost use Rattle.xrf_base.specs.Values.{IsValue, is_value, is_value_byte, value_of, padded_value, slot_of, SlotIs, slot_reading};
 
 use crate::blanks::{before_blank, padded_array};
+use crate::zeros::{from_place, is_zero_from};
+use byteorder::{BigEndian, ByteOrder};
 use std::marker::Model;
 
 /// The value of a record: 1 to 24 characters from `!` to `~`. Contracts see its characters.
@@ -105,43 +107,59 @@ impl Eq for Value {
     ghost laws = { nat_list_eq_equiv };
 }
 
+// the number that the first 8 bytes of a record's slot spell: 1, and seven zero bytes
+const RECORD_FRONT: u64 = 0x0100_0000_0000_0000;
+
+fn are_blank(bytes: &[u8]) -> bool
+    ensures { result ≡ list_all (λ b. b == 32) bytes.now }
+{
+    bytes.iter().all(|b| *b == b' ')
+}
+
+fn is_blank_from(bytes: &[u8], place: usize) -> bool
+    requires { place ≤ length bytes.now }
+    ensures { result ≡ list_all (λ b. b == 32) (drop place bytes.now) }
+{
+    are_blank(from_place(bytes, place))
+}
+
 impl Value {
-    // itself, where the bytes are its slot
-    fn if_slot_is(self, slot: &[u8; 32]) -> Option<Value>
-        ensures { result ≡ if pointwise nat_eq (slot_of (Some self)) slot.now then Some self else None }
+    // the value that a field spells: the value, and blanks up to 24 bytes
+    fn from_padded(field: &[u8; 24]) -> Option<Value>
+        ensures { result ≡ padded_value field.now }
     {
-        if self.to_slot() == *slot {
-            Some(self)
+        let text = before_blank(field);
+        if spells_value(text) && is_blank_from(field, text.len()) {
+            Some(Value {
+                bytes: *field,
+                count: text.len() as u8,
+            })
         } else {
             None
         }
     }
 }
 
-// behind the first 8 bytes
-fn value_field(slot: &[u8]) -> &[u8]
-    requires { 8 ≤ length slot.now }
-    ensures { result.now ≡ drop 8 slot.now }
+// what stands behind the first 8 bytes
+fn value_field(slot: &[u8; 32]) -> [u8; 24]
+    ensures { result ≡ drop 8 slot.now }
 {
-    &slot[8..]
-}
-
-fn record_held(slot: &[u8; 32]) -> Option<Value>
-    ensures { result ≡ record_reading slot.now }
-{
-    match Value::read(before_blank(value_field(slot))) {
-        Some(value) => value.if_slot_is(slot),
-        None => None,
-    }
+    let mut field = [0; 24];
+    field.copy_from_slice(from_place(slot, 8));
+    field
 }
 
 fn held(slot: &[u8; 32]) -> Option<Option<Value>>
     ensures { result ≡ slot_reading slot.now }
 {
-    if *slot == [0; 32] {
+    let front = BigEndian::read_u64(slot);
+    if front == RECORD_FRONT {
+        return Value::from_padded(&value_field(slot)).map(Some);
+    }
+    if front == 0 && is_zero_from(slot, 8) {
         return Some(None);
     }
-    record_held(slot).map(Some)
+    None
 }
 
 /// What a file slot holds: a record's value, or nothing where it is empty. None where the bytes are

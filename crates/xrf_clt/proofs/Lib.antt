@@ -3,3 +3,4 @@ pub mod Rows
 pub mod Faultless
 pub mod Whole
 pub mod Later
+pub mod Within

@@ -1,10 +1,10 @@
 //! The command list table: what an alternate orders and says when it takes over.
 #![tactic(auto)]
 
-ghost use Rattle.std.specs.Prelude.{◌≡◌, ◌<◌, ℕ, List, ◌∷◌, length, map, slice_get, Some, None, [], ◌++◌, OnOk, OnErr, MatchResult, IfOk, IfErr};
+ghost use Rattle.std.specs.Prelude.{◌≡◌, ◌<◌, ℕ, List, ◌∷◌, length, map, take, slice_get, Some, None, [], ◌++◌, OnOk, OnErr, MatchResult, IfOk, IfErr};
 ghost use Rattle.std.specs.List.{AllByRecursion, join_with_byte};
 ghost use Rattle.xrf_text.specs.Text.{lines, words};
-ghost use Rattle.xrf_clt.specs.Kept.{kept_of};
+ghost use Rattle.xrf_clt.specs.Kept.{kept_of, own_entries, text_at, IsWithin};
 ghost use Rattle.xrf_clt.specs.Table.{AreKept, IsError, texts_for, with_blanks};
 ghost use Rattle.xrf_clt.specs.Lines.{IsLine, Line, line_words, words_kept, fault_of, is_cancel, is_kind, kind_word};
 
@@ -108,69 +108,56 @@ fn parse(line: &[u8]) -> Result<(Name8, &[u8]), CltReason>
     Ok((applid, order))
 }
 
-/// Appends the words of a line, each behind a blank.
-fn append_words(text: &mut Vec<u8>, line: &[u8]) -> Result<(), AllocError>
-    ensures ok { OnOk result (text.new.items ≡ text.old.items ++ with_blanks (words line.now)) }
+/// Appends the words of a line, each behind a blank. What was there stays, whatever the answer.
+#[tactic(auto, using(crate::proofs::Joining::stays_in_front))]
+fn append_words(texts: &mut Vec<u8>, line: &[u8]) -> Result<(), AllocError>
+    ensures ok { OnOk result (texts.new.items ≡ texts.old.items ++ with_blanks (words line.now)) }
+    ensures stays { take (length texts.old.items) texts.new.items ≡ texts.old.items }
 {
     let mut rest = line;
     while let Some((word, more)) = split_word(rest) {
-        text.push(b' ')?;
-        text.extend_from_slice(word)?;
+        texts.push(b' ')?;
+        texts.extend_from_slice(word)?;
         rest = more;
     }
     Ok(())
 }
 
-/// The words of a line with one blank between them.
-#[tactic(auto, using(crate::proofs::Joining::join_first))]
-fn joined(alloc: Global, line: &[u8]) -> Result<Vec<u8>, AllocError>
-    ensures { IfOk result (λ text. text.items ≡ join_with_byte 32 (words line.now)) }
+/// Appends the words of a line with one blank between them. What was there stays, whatever the answer.
+#[tactic(auto, using(crate::proofs::Joining::joined_behind, crate::proofs::Joining::front_of_front, crate::proofs::Joining::stays_in_front))]
+fn append_joined(texts: &mut Vec<u8>, line: &[u8]) -> Result<(), AllocError>
+    ensures ok { OnOk result (texts.new.items ≡ texts.old.items ++ join_with_byte 32 (words line.now)) }
+    ensures stays { take (length texts.old.items) texts.new.items ≡ texts.old.items }
 {
-    let mut text = Vec::with_capacity(alloc, line.len())?;
     let Some((word, more)) = split_word(line) else {
-        return Ok(text);
+        return Ok(());
     };
-    text.extend_from_slice(word)?;
-    append_words(&mut text, more)?;
-    Ok(text)
+    texts.reserve(line.len())?;
+    texts.extend_from_slice(word)?;
+    append_words(texts, more)
 }
 
-/// What is kept of a line: the applid, and the words behind it with one blank between them.
-#[derive(Clone, Drop)]
+/// What is kept of a line: the applid, and where its text begins and ends among the texts of all lines.
+#[derive(Clone, Copy)]
 struct Entry {
     applid: Name8,
-    text: Vec<u8>,
+    start: usize,
+    end: usize,
 }
 
-/// The entries of all lines of a text, or the error.
-fn read_entries(alloc: Global, text: &[u8]) -> Result<Vec<Entry>, CltError>
-    ensures found { IfOk result (λ entries. AreKept (lines text.now) (kept_of entries.items)) }
-    ensures fault { IfErr result (λ error. IsError (lines text.now) error) }
-{
-    let mut entries = Vec::new(alloc);
-    let mut rest = text;
-    while let Some((line, more)) = split_line(rest) {
-        let (applid, order) = match parse(line) {
-            Ok(parts) => parts,
-            Err(reason) => {
-                let line = entries.len();
-                return Err(CltError::Fault { line, reason });
-            }
-        };
-        let Ok(text) = joined(alloc, order) else {
-            return Err(CltError::NoMemory);
-        };
-        let Ok(()) = entries.push(Entry { applid, text }) else {
-            return Err(CltError::NoMemory);
-        };
-        rest = more;
+impl Entry {
+    /// The text of the line.
+    fn text(self, texts: &[u8]) -> &[u8]
+        requires { IsWithin texts.now self }
+        ensures { result.now ≡ text_at texts.now self }
+    {
+        &texts[self.start..self.end]
     }
-    Ok(entries)
 }
 
 /// How many entries an applid has.
-fn count_of(entries: &[Entry], applid: Name8) -> usize
-    ensures { result ≡ length (texts_for applid (kept_of entries.now)) }
+fn count_own(entries: &[Entry], applid: Name8) -> usize
+    ensures { result ≡ length (own_entries applid entries.now) }
 {
     let mut count = 0;
     for entry in entries {
@@ -181,10 +168,10 @@ fn count_of(entries: &[Entry], applid: Name8) -> usize
     count
 }
 
-/// The text of an applid's entry at a place among its own.
-fn text_of(entries: &[Entry], applid: Name8, k: usize) -> &[u8]
-    requires { k < length (texts_for applid (kept_of entries.now)) }
-    ensures { slice_get (texts_for applid (kept_of entries.now)) k ≡ Some result.now }
+/// An applid's entry at a place among its own.
+fn own_entry(entries: &[Entry], applid: Name8, k: usize) -> Entry
+    requires { k < length (own_entries applid entries.now) }
+    ensures { slice_get (own_entries applid entries.now) k ≡ Some result }
 {
     let mut left = k;
     for entry in entries {
@@ -192,26 +179,30 @@ fn text_of(entries: &[Entry], applid: Name8, k: usize) -> &[u8]
             continue;
         }
         if left == 0 {
-            return entry.text.as_slice();
+            return *entry;
         }
         left -= 1;
     }
     unreachable!()
 }
 
-/// A command list, seen by contracts as what is kept of its lines, in their order.
+/// A command list, seen by contracts as what is kept of its lines, in their order. The texts of all lines stand one
+/// behind another.
 #[derive(Drop)]
 pub struct Clt {
+    texts: Vec<u8>,
     entries: Vec<Entry>,
 }
 
 impl Model for Clt {
     ghost use Rattle.std.specs.Prelude.{List};
-    ghost use Rattle.xrf_clt.specs.Kept.{Kept, kept_of};
+    ghost use Rattle.xrf_clt.specs.Kept.{Kept, kept_of, AreWithin};
 
     ghost Value = { List Kept };
 
-    ghost view = { λ c. kept_of c.entries.items };
+    ghost view = { λ c. kept_of c.texts.items c.entries.items };
+
+    ghost invariant = { λ c. AreWithin c.texts.items c.entries.items };
 }
 
 impl Clt {
@@ -220,10 +211,22 @@ impl Clt {
         ensures found { IfOk result (λ clt. AreKept (lines text.now) clt) }
         ensures fault { IfErr result (λ error. IsError (lines text.now) error) }
     {
-        match read_entries(alloc, text) {
-            Ok(entries) => Ok(Clt { entries }),
-            Err(error) => Err(error),
+        let mut clt = Clt::new(alloc);
+        let mut rest = text;
+        while let Some((line, more)) = split_line(rest) {
+            let (applid, order) = match parse(line) {
+                Ok(parts) => parts,
+                Err(reason) => {
+                    let line = clt.count();
+                    return Err(CltError::Fault { line, reason });
+                }
+            };
+            let Ok(()) = clt.keep(applid, order) else {
+                return Err(CltError::NoMemory);
+            };
+            rest = more;
         }
+        Ok(clt)
     }
 
     /// The list of no line.
@@ -231,13 +234,13 @@ impl Clt {
         ensures { result ≡ [] }
     {
         Clt {
+            texts: Vec::new(alloc),
             entries: Vec::new(alloc),
         }
     }
 
     /// Adds a line, which is one of the command list without its word CLT.
-    #[tactic(auto, using(crate::proofs::Joining::kept_more))]
-    pub fn add(&mut self, alloc: Global, line: &[u8]) -> Result<(), AllocError>
+    pub fn add(&mut self, line: &[u8]) -> Result<(), AllocError>
         requires { fault_of (words line.now) ≡ None }
         ensures ok { OnOk result (self.new ≡ self.old ++ words_kept (words line.now) ∷ []) }
         ensures err { OnErr result (self.new ≡ self.old) }
@@ -248,8 +251,23 @@ impl Clt {
         let Some(applid) = Name8::read(applid) else {
             unreachable!()
         };
-        let text = joined(alloc, order)?;
-        self.entries.push(Entry { applid, text })?;
+        self.keep(applid, order)
+    }
+
+    /// Adds what is kept of a line with this applid and these words behind it.
+    #[tactic(auto, using(crate::proofs::Within::kept_more, crate::proofs::Within::within_more))]
+    fn keep(&mut self, applid: Name8, order: &[u8]) -> Result<(), AllocError>
+        ensures ok { OnOk result (self.new ≡ self.old ++ record { applid = applid; text = join_with_byte 32 (words order.now) } ∷ []) }
+        ensures err { OnErr result (self.new ≡ self.old) }
+    {
+        self.entries.reserve(1)?;
+        let start = self.texts.len();
+        let Ok(()) = append_joined(&mut self.texts, order) else {
+            self.texts.truncate(start);
+            return Err(AllocError);
+        };
+        let end = self.texts.len();
+        self.entries.push_reserved(Entry { applid, start, end });
         Ok(())
     }
 
@@ -257,8 +275,10 @@ impl Clt {
     pub fn copy(&self) -> Result<Clt, AllocError>
         ensures { IfOk result (λ clt. clt ≡ self.now) }
     {
+        let alloc = *self.texts.allocator();
         Ok(Clt {
-            entries: self.entries.clone()?,
+            texts: Vec::from_slice(alloc, self.texts.as_slice())?,
+            entries: Vec::from_slice(alloc, self.entries.as_slice())?,
         })
     }
 
@@ -270,27 +290,29 @@ impl Clt {
     }
 
     /// The applid and the text of the line at a place, from 0.
+    #[tactic(auto, using(crate::proofs::Within::within_at))]
     pub fn line(&self, k: usize) -> (Name8, &[u8])
         requires { k < length self.now }
         ensures { slice_get self.now k ≡ Some (record { applid = result.0; text = result.1.now }) }
     {
-        let entry = &self.entries[k];
-        (entry.applid, entry.text.as_slice())
+        let entry = self.entries[k];
+        (entry.applid, entry.text(self.texts.as_slice()))
     }
 
     /// How many lines an applid has.
     pub fn count_for(&self, applid: Name8) -> usize
         ensures { result ≡ length (texts_for applid self.now) }
     {
-        count_of(self.entries.as_slice(), applid)
+        count_own(self.entries.as_slice(), applid)
     }
 
     /// The text of an applid's line at a place, from 0, among the lines of this applid.
+    #[tactic(auto, using(crate::proofs::Within::own_count, crate::proofs::Within::own_inside, crate::proofs::Within::own_line))]
     pub fn line_for(&self, applid: Name8, k: usize) -> &[u8]
         requires { k < length (texts_for applid self.now) }
         ensures { slice_get (texts_for applid self.now) k ≡ Some result.now }
     {
-        text_of(self.entries.as_slice(), applid, k)
+        own_entry(self.entries.as_slice(), applid, k).text(self.texts.as_slice())
     }
 }
 

@@ -25,10 +25,10 @@ fn lines_are_added_and_copied(rt: HostRuntime) -> Result<(), Fail> {
     let alloc = rt.alloc();
     let mut clt = Clt::new(alloc);
     assert_eq!(rt; clt.count(), 0);
-    clt.add(alloc, b" CICSB  WTO  Takeover  of CICSA ")?;
-    clt.add(alloc, b"CICSB CANCEL CICSA")?;
+    clt.add(b" CICSB  WTO  Takeover  of CICSA ")?;
+    clt.add(b"CICSB CANCEL CICSA")?;
     let copy = clt.copy()?;
-    clt.add(alloc, b"CICSA COMMAND X")?;
+    clt.add(b"CICSA COMMAND X")?;
     assert_eq!(rt; clt.count(), 3);
     assert_eq!(rt; copy.count(), 2);
     assert_eq!(rt; copy.line(0).1, b"WTO Takeover of CICSA".as_slice());

@@ -1,13 +1,12 @@
 -- The bytes of a record have its parts, and bytes that have a record's parts are that record's.
-use Rattle.std.proofs.Common.{◌≡◌, ℕ, ◌+◌, ◌^◌, ◌<◌, ◌≤◌, List, [], ◌++◌, length, take, drop, Option, Some, None, refl, sym, ap, subst, ◌∙◌, arith}
+use Rattle.std.proofs.Common.{◌≡◌, ℕ, ◌^◌, ◌<◌, List, [], ◌++◌, length, Option, Some, None, refl, sym, ap, subst, ◌∙◌, arith}
 use Rattle.std.proofs.Math.Seq.{take-add}
-use Rattle.std.proofs.lemmas.List.{length-take, length-drop, get_or-take, get_or-drop, get_or_past, take_all}
-use Rattle.std.proofs.lemmas.Bool.{cases_lt}
+use Rattle.std.proofs.lemmas.List.{take_all}
 use Rattle.std.proofs.Common.{inl, inr}
-use Rattle.byteorder.specs.Endian.{big_number, big_bytes}
-use Rattle.byteorder.specs.Numbers.{big_from-take, big_number-reads_back}
+use Rattle.byteorder.specs.Endian.{big_bytes}
+use Rattle.byteorder.specs.Numbers.{big_number-reads_back}
 use Rattle.xrf_base.specs.Numbers.{AreBytes}
-use Rattle.xrf_base.proofs.NumberLaws.{again}
+use Rattle.xrf_base.proofs.NumberLaws.{number_part}
 use Rattle.xrf_ctl.specs.Places.{part, number_at, zeros, laid_at}
 use Rattle.xrf_ctl.specs.Reading.{HasParts}
 use Rattle.xrf_ctl.specs.declared.parts.Owner.{Owner}
@@ -16,21 +15,6 @@ use Rattle.xrf_ctl.specs.declared.parts.Taking.{Taking}
 use Rattle.xrf_ctl.specs.Control.{ControlRecord, IsControl, IsFormat, OwnerFits, AltFits, TakingFits, of_parts}
 use Rattle.xrf_ctl.specs.Layout.{eye, owner_bytes, alt_bytes, taking_bytes, control_bytes, Spells}
 use Rattle.xrf_ctl.specs.Faults.{last_at}
-
-AreBytes-part : (bytes : List ℕ) (place n : ℕ) → AreBytes bytes → AreBytes (part bytes place n)
-AreBytes-part bytes place n h i =
-    elim (cases_lt i n) [
-      | inl lt ↦ rw (get_or-take n (drop place bytes) i 0 lt, get_or-drop) (h (place + i))
-      | inr le ↦ rw (get_or_past (take n (drop place bytes)) i 0 (omega (arith, length-take n (drop place bytes)))) (omega arith)
-    ]
-
--- the bytes at a place are those of the number that they spell
-number_part : (bytes : List ℕ) (place n : ℕ) → place + n ≤ length bytes → AreBytes bytes → part bytes place n ≡ big_bytes n (number_at bytes place n)
-number_part bytes place n room fits =
-    let len : length (part bytes place n) ≡ n = omega (arith, length-take n (drop place bytes), length-drop place bytes) in
-    let same : big_bytes n (big_number n (part bytes place n)) ≡ part bytes place n =
-    subst (λ (k : ℕ). big_bytes k (big_number k (part bytes place n)) ≡ part bytes place n) len (again (part bytes place n) (AreBytes-part bytes place n fits)) in
-    sym same ∙ ap (λ (x : ℕ). big_bytes n x) (big_from-take 0 n n (drop place bytes) (omega arith))
 
 -- 256 bytes are their fields, one after the other
 pub in_fields : (b : List ℕ) → length b ≡ 256

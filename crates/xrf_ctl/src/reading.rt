@@ -1,7 +1,7 @@
 //! The fields of 256 bytes that may be a control record, each at its place.
 
 ghost use Rattle.std.specs.Prelude.{◌≡◌, ◌↔◌, Option, Some, IfSome, IsTrue};
-ghost use Rattle.xrf_ctl.specs.Places.{number_at};
+ghost use Rattle.xrf_ctl.specs.Places.{part, number_at, zeros};
 ghost use Rattle.xrf_ctl.specs.declared.parts.Owner.{Owner};
 ghost use Rattle.xrf_ctl.specs.declared.parts.Alt.{Alt};
 ghost use Rattle.xrf_ctl.specs.declared.parts.Taking.{Taking};
@@ -11,7 +11,7 @@ ghost use Rattle.xrf_ctl.specs.Faults.{last_at, HasOwner, HasAlt, HasTaking, Hol
 use crate::fields::{read_alt, read_owner, read_taking};
 use crate::parts::{Alt, Owner, Taking};
 use crate::places::{u16_at, u32_at};
-use xrf_base::Inc;
+use xrf_base::{Inc, is_zero_from};
 
 /// What stands at the head of a control record.
 pub const EYE: [u8; 4] = *b"XCTL";
@@ -62,9 +62,15 @@ pub fn taking_of(bytes: &[u8; 256], alt: Option<Alt>) -> Option<Option<Taking>>
     read_taking(&bytes[28..36], last_of(bytes), alt)
 }
 
+fn is_zero_behind_fields(bytes: &[u8; 256]) -> bool
+    ensures { IsTrue result ↔ (part bytes.now 36 220 ≡ zeros 220) }
+{
+    is_zero_from(bytes, 36)
+}
+
 /// Nothing stands where no field is.
 pub fn is_zero_elsewhere(bytes: &[u8; 256]) -> bool
     ensures { IsTrue result ↔ Holds bytes.now field.Reserved }
 {
-    &bytes[6..8] == [0; 2].as_slice() && &bytes[36..] == [0; 220].as_slice()
+    &bytes[6..8] == [0; 2].as_slice() && is_zero_behind_fields(bytes)
 }

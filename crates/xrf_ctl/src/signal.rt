@@ -1,11 +1,12 @@
 //! The signal that a region gives again and again.
 
-ghost use Rattle.std.specs.Prelude.{◌≡◌, ◌↔◌, Some};
-ghost use Rattle.xrf_ctl.specs.Signal.{SignalRecord, SpellsSignal};
+ghost use Rattle.std.specs.Prelude.{◌≡◌, ◌↔◌, Some, IsTrue, take, codes};
+ghost use Rattle.xrf_ctl.specs.Places.{number_at};
+ghost use Rattle.xrf_ctl.specs.Signal.{SignalRecord, SpellsSignal, of_numbers, signal_bytes};
 
 use crate::places::{lay, lay_u32, lay_u64, u32_at, u64_at};
 use std::marker::Model;
-use xrf_base::Inc;
+use xrf_base::{Inc, is_zero_from};
 
 const EYE: [u8; 4] = *b"XSIG";
 
@@ -46,12 +47,19 @@ impl Signal {
             counter,
             cursor,
         };
-        // The bytes that were not looked at are those of the spelling too.
-        if signal.write().as_slice() == bytes.as_slice() {
+        if signal.is_alone_in(bytes) {
             Some(signal)
         } else {
             None
         }
+    }
+
+    // Whether bytes that have this signal's numbers have the eye before them and nothing behind them.
+    fn is_alone_in(&self, bytes: &[u8; 64]) -> bool
+        requires { self.now ≡ of_numbers (number_at bytes.now 4 4) (number_at bytes.now 8 8) (number_at bytes.now 16 4) }
+        ensures { IsTrue result ↔ (bytes.now ≡ signal_bytes self.now) }
+    {
+        has_eye(bytes) && is_zero_from(bytes, 20)
     }
 
     /// The one spelling of the signal.
@@ -65,4 +73,10 @@ impl Signal {
         lay_u32(&mut bytes, 16, self.cursor);
         bytes
     }
+}
+
+fn has_eye(bytes: &[u8; 64]) -> bool
+    ensures { IsTrue result ↔ (take 4 bytes.now ≡ codes "XSIG") }
+{
+    &bytes[..4] == EYE.as_slice()
 }

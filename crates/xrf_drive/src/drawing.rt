@@ -80,14 +80,14 @@ fn step(world: &mut World, site: Site) -> bool
     requires room { length world.old.trace < CHOICES_MOST }
     ensures { Tried world.old (step_at world.old.scenario world.old.trace site) result world.new }
 {
-    make(world, &Choice::Step(site))
+    world.has_job(site) && world.step(site).is_ok()
 }
 
 fn tick(world: &mut World)
     requires room { length world.old.trace < CHOICES_MOST }
     ensures { Applied world.old choice.Tick (Ok tt) world.new }
 {
-    let _ = world.apply(&Choice::Tick);
+    world.tick();
 }
 
 // EXIT at the first site where a notice is pending

@@ -1,5 +1,5 @@
 -- What some words spell by forms of a table is what they say by the table.
-use Rattle.std.proofs.Common.{◌≡◌, inl, inr, ℕ, Bool, true, false, List, ◌∷◌, Option, Some, None, Ok, IfSome, refl, sym, subst}
+use Rattle.std.proofs.Common.{◌≡◌, inl, inr, ℕ, Bool, true, false, List, ◌∷◌, Option, Some, None, Ok, IfSome, refl, sym, ap, ◌∙◌, subst}
 use Rattle.xrf_grammar.specs.declared.form.Form.{Form}
 use Rattle.xrf_setup.specs.declared.format.Format.{Format}
 use Rattle.xrf_grammar.specs.declared.form.Part.{Part}
@@ -53,6 +53,12 @@ pub setting_read : (format : Format) (ws held : List (List ℕ)) (r : Option Lin
 setting_read format ws held None same s = tt
 setting_read format ws held (Some says) same s =
     sym (line-again (settings_of format) ws says (settings-apart format) (subst (λ (l : List (List ℕ)). Spells (settings_of format) l says) same s))
+
+-- a line before the choices that begins with a key
+pub setting_behind : (format : Format) (ws more : List (List ℕ)) (word key : List ℕ) (r : Option Line) → ws ≡ word ∷ more → word ≡ key → IfSome r (λ says. Spells (settings_of format) (key ∷ more) says)
+    → IfSome r (λ says. Ok says ≡ line_of (settings_of format) ws)
+setting_behind format ws more word key r first is s =
+    setting_read format ws (key ∷ more) r (sym (first ∙ ap (λ (w : List ℕ). w ∷ more) is)) s
 
 -- a line behind CHOICES, of which these are the words
 pub choice_read : (forms : List Form) (ws held : List (List ℕ)) (r : Option Line) → AreAmong forms choices_table → held ≡ ws → IfSome r (λ says. Spells forms held says)

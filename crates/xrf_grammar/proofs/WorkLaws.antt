@@ -1,5 +1,5 @@
 -- What first records and lines of work spell, read word by word.
-use Rattle.std.proofs.Common.{◌≡◌, ◌≤◌, ◌&&◌, ℕ, Bool, true, false, not, if◌then◌else◌, nat_le, List, [], ◌∷◌, Option, Some, None, IsTrue, codes, refl, sym, subst, ◌∙◌, arith}
+use Rattle.std.proofs.Common.{◌≡◌, ◌≤◌, ◌&&◌, ℕ, Bool, true, false, not, if◌then◌else◌, nat_le, List, [], ◌∷◌, Option, Some, None, IsTrue, codes, refl, sym, ap, subst, ◌∙◌, arith}
 use Rattle.std.specs.Option.{is_some, option_and_then}
 use Rattle.std.specs.Str.{bytes_eq}
 use Rattle.std.proofs.lemmas.Slice.Eq.{bytes_eq-Decides}
@@ -11,10 +11,11 @@ use Rattle.xrf_base.specs.declared.items.Item.{Item}
 use Rattle.xrf_base.specs.declared.items.Item.TheVariants as item
 use Rattle.xrf_base.specs.declared.site.Site.{Site as Place}
 use Rattle.xrf_setup.specs.declared.format.Format.{Format}
+use Rattle.xrf_text.specs.Text.{are_some}
 use Rattle.xrf_setup.specs.declared.ranges.TheConstants.{FILE_LEAST, FILE_MOST}
 use Rattle.xrf_grammar.specs.declared.form.Form.TheVariants as form
 use Rattle.xrf_grammar.specs.declared.form.ItemForm.TheVariants as work
-use Rattle.xrf_grammar.specs.declared.line.Line.TheVariants.{Record, Work}
+use Rattle.xrf_grammar.specs.declared.line.Line.TheVariants.{Record, Clt, Work}
 use Rattle.xrf_grammar.specs.Grammar.{IsNumber, Spells, SpellsItem}
 use Rattle.xrf_grammar.specs.Numbers.{number_of}
 use Rattle.xrf_grammar.specs.Operands.{site_of, class_of}
@@ -67,6 +68,17 @@ record_spelled format key number value n v spelled at low high is = record {
   line = rw (at, is) refl;
 }
 
+-- the words behind RECORD of a first record
+no-words : (ws : List (List ℕ)) → are_some ws ≡ false → ws ≡ []
+no-words [] none = refl
+no-words (word ∷ ws) none = absurd (cc)
+
+pub record_read : (format : Format) (ws others more : List (List ℕ)) (number value : List ℕ) (n : ℕ) (v : List ℕ) → ws ≡ number ∷ others → others ≡ value ∷ more → are_some more ≡ false
+    → number_of number ≡ Some n → FILE_LEAST ≤ n → n ≤ FILE_MOST → value_of value ≡ Some v → Spells (settings_of format) (codes "RECORD" ∷ ws) (Record n v)
+record_read format ws others more number value n v first second none at low high is =
+    let both : ws ≡ number ∷ value ∷ [] = first ∙ ap (λ (l : List (List ℕ)). number ∷ l) (second ∙ ap (λ (l : List (List ℕ)). value ∷ l) (no-words more none)) in
+    subst (λ (l : List (List ℕ)). Spells (settings_of format) (codes "RECORD" ∷ l) (Record n v)) (sym both) (record_spelled format (codes "RECORD") number value n v refl at low high is)
+
 -- an item of a unit or a terminal alone
 pub begin_spelled : (format : Format) (key name unit : List ℕ) → key ≡ codes "BEGIN" → name_of name ≡ Some unit → SpellsItem format (key ∷ name ∷ []) (item.Begin unit)
 begin_spelled format key name unit spelled is word site at =
@@ -115,3 +127,21 @@ put_spelled format key name number value unit n v spelled is num val word site a
 pub work_spelled : (format : Format) (key word : List ℕ) (site : Place) (ws : List (List ℕ)) (says : Item) → key ≡ codes "WORK" → site_of word ≡ Some site → SpellsItem format ws says
     → Spells (settings_of format) (key ∷ word ∷ ws) (Work site says)
 work_spelled format key word site ws says spelled at item = subst (λ (first : List ℕ). Spells (settings_of format) (first ∷ word ∷ ws) (Work site says)) (sym spelled) (item word site at)
+
+-- the words behind CLT of a message
+pub message_read : (format : Format) (ws others behind more : List (List ℕ)) (region kind word : List ℕ) → ws ≡ region ∷ others → others ≡ kind ∷ behind → behind ≡ word ∷ more
+    → is_name region ≡ true → kind ≡ codes "WTO" → Spells (settings_of format) (codes "CLT" ∷ ws) Clt
+message_read format ws others behind more region kind word first second third named is =
+    let all : ws ≡ region ∷ kind ∷ word ∷ more = first ∙ ap (λ (l : List (List ℕ)). region ∷ l) (second ∙ ap (λ (l : List (List ℕ)). kind ∷ l) third) in
+    subst (λ (l : List (List ℕ)). Spells (settings_of format) (codes "CLT" ∷ l) Clt) (sym all)
+    (record { form = form.CltWto; among = in_both format 19 form.CltWto refl refl; fit = (refl, (named, (is, tt))); line = refl })
+
+-- the words behind WORK of a put
+pub put_read : (format : Format) (ws w1 w2 w3 w4 more : List (List ℕ)) (word key name number value : List ℕ) (site : Place) (unit : List ℕ) (n : ℕ) (v : List ℕ)
+    → ws ≡ word ∷ w1 → w1 ≡ key ∷ w2 → w2 ≡ name ∷ w3 → w3 ≡ number ∷ w4 → w4 ≡ value ∷ more → are_some more ≡ false
+    → key ≡ codes "PUT" → site_of word ≡ Some site → name_of name ≡ Some unit → number_of number ≡ Some n → value_of value ≡ Some v
+    → Spells (settings_of format) (codes "WORK" ∷ ws) (Work site (item.Put unit n v))
+put_read format ws w1 w2 w3 w4 more word key name number value site unit n v e1 e2 e3 e4 e5 none is at named num val =
+    let all : ws ≡ word ∷ key ∷ name ∷ number ∷ value ∷ [] =
+    e1 ∙ ap (λ (l : List (List ℕ)). word ∷ l) (e2 ∙ ap (λ (l : List (List ℕ)). key ∷ l) (e3 ∙ ap (λ (l : List (List ℕ)). name ∷ l) (e4 ∙ ap (λ (l : List (List ℕ)). number ∷ l) (e5 ∙ ap (λ (l : List (List ℕ)). value ∷ l) (no-words more none))))) in
+    subst (λ (l : List (List ℕ)). Spells (settings_of format) (codes "WORK" ∷ l) (Work site (item.Put unit n v))) (sym all) (put_spelled format key name number value unit n v is named num val word site at)

@@ -13,6 +13,7 @@ pub mod line_writing;
 mod number;
 mod operand;
 pub mod reading;
+mod reading_at_once;
 pub mod reason;
 mod saying;
 mod settings_beginning;

@@ -1,6 +1,6 @@
 //! Numbers in texts.
 
-ghost use Rattle.std.specs.Prelude.{◌≡◌, ◌≤◌, length};
+ghost use Rattle.std.specs.Prelude.{◌≡◌, ◌≤◌, length, IfSome, Some};
 ghost use Rattle.xrf_grammar.specs.Numbers.{digits_behind, number_of};
 
 // the number that at most five digits write, or none where one is no digit
@@ -33,4 +33,19 @@ pub(crate) fn read_number(text: &[u8]) -> Option<u16>
         return None;
     }
     u16::try_from(value(text)?).ok()
+}
+
+/// The number that a word spells, where it is from the first to the second.
+#[inline(always)]
+pub(crate) fn number_within(least: u16, most: u16, word: &[u8]) -> Option<u16>
+    ensures { IfSome result (λ n. (number_of word.now ≡ Some n) × ((least ≤ n) × (n ≤ most))) }
+{
+    let number = read_number(word)?;
+    if number < least {
+        return None;
+    }
+    if number > most {
+        return None;
+    }
+    Some(number)
 }

@@ -9,6 +9,7 @@ ghost use Rattle.xrf_grammar.specs.Reading.{line_of_form, line_of, are_two, head
 use crate::fitting::{choose_form, find_fault};
 use crate::form::Form;
 use crate::line::Line;
+use crate::reading_at_once::setting_at_once;
 use crate::reason::Reason;
 use crate::saying::say;
 use crate::spelled::{choice_by_first_word, setting_by_words};
@@ -38,6 +39,17 @@ pub fn read_setting(format: Format, line: &[u8]) -> Result<Line, Reason>
     ensures found { IfOk result (λ says. Spells (settings_of format) (words line.now) says) }
     ensures none { IfErr result (λ reason. AreOfNone (settings_of format) (words line.now)) }
     ensures exact { result ≡ line_of (settings_of format) (words line.now) }
+{
+    match setting_at_once(format, line) {
+        Some(says) => Ok(says),
+        None => read_split(format, line),
+    }
+}
+
+/// The same by the words of the line, or by its form.
+#[inline(never)]
+fn read_split(format: Format, line: &[u8]) -> Result<Line, Reason>
+    ensures { result ≡ line_of (settings_of format) (words line.now) }
 {
     match setting_by_words(format, line) {
         Some(says) => Ok(says),

@@ -25,12 +25,11 @@ fn work_beginning(format: Format, item: &[u8]) -> &'static [Form]
     }
 }
 
-/// The forms of a line of the command list of this kind.
+/// The forms of a line of the command list of this kind. Its messages are read at once.
 fn clt_beginning(format: Format, kind: &[u8]) -> &'static [Form]
     ensures { AreAmong result.now (settings_of format) }
 {
     match kind {
-        b"WTO" => &[Form::CltWto],
         b"COMMAND" => &[Form::CltCommand],
         _ => &[Form::CltCancel],
     }
@@ -132,8 +131,8 @@ fn level_beginning(word: &[u8]) -> &'static [Form]
 }
 
 /// The forms between the header and the line CHOICES of which some words can be, by the first and,
-/// where several begin so, by later ones; each is one of them. A first record is read word by word,
-/// and so is most work.
+/// where several begin so, by later ones; each is one of them. A first record is read at once,
+/// and most work word by word.
 pub(crate) fn settings_beginning(format: Format, words: &[&[u8]]) -> &'static [Form]
     ensures { AreAmong result.now (settings_of format) }
 {

@@ -106,7 +106,8 @@ fn setting_spelled(format: Format, line_words: &[&[u8]]) -> Option<Line>
     setting_by_form(format, line_words)
 }
 
-/// What a line before the choices says, where it is found by its first words.
+/// What a line before the choices says, where it is found by its first words. None says nothing of
+/// the line, which is then read by its form.
 pub(crate) fn setting_by_words(format: Format, line: &[u8]) -> Option<Line>
     ensures { IfSome result (λ says. Ok says ≡ line_of (settings_of format) (words line.now)) }
 {
@@ -117,7 +118,8 @@ pub(crate) fn setting_by_words(format: Format, line: &[u8]) -> Option<Line>
     setting_spelled(format, words.as_slice())
 }
 
-/// What a line behind the line CHOICES says, where it is found by its first word.
+/// What a line behind the line CHOICES says, where it is found by its first word. None says nothing
+/// of the line, which is then read by its form.
 pub(crate) fn choice_by_first_word(line: &[u8]) -> Option<Line>
     ensures { IfSome result (λ says. Ok says ≡ line_of choices_table (words line.now)) }
 {

@@ -1,43 +1,15 @@
-//! First records and the items that most lines of work have, read word by word.
+//! The items that most lines of work have beside puts, read word by word.
 
-ghost use Rattle.std.specs.Prelude.{◌≡◌, ◌≤◌, ◌∷◌, [], IfSome, Some};
+ghost use Rattle.std.specs.Prelude.{◌≡◌, ◌∷◌, [], IfSome};
 ghost use Rattle.xrf_text.specs.Text.{texts};
 ghost use Rattle.xrf_grammar.specs.Grammar.{SpellsItem, Spells};
-ghost use Rattle.xrf_grammar.specs.Numbers.{number_of};
 ghost use Rattle.xrf_grammar.specs.Table.{settings_of};
 
 use crate::line::Line;
 use crate::number::read_number;
 use crate::operand::{read_class, read_site};
-use xrf_base::{Item, Name8, Value};
+use xrf_base::{Item, Name8};
 use xrf_setup::Format;
-use xrf_setup::ranges::{FILE_LEAST, FILE_MOST};
-
-/// The number that a word spells, where it is from the first to the second.
-#[inline(always)]
-fn number_within(least: u16, most: u16, word: &[u8]) -> Option<u16>
-    ensures { IfSome result (λ n. (number_of word.now ≡ Some n) × ((least ≤ n) × (n ≤ most))) }
-{
-    let number = read_number(word)?;
-    if number < least {
-        return None;
-    }
-    if number > most {
-        return None;
-    }
-    Some(number)
-}
-
-/// The first record that three words spell.
-fn read_record(format: Format, word: &[u8], number: &[u8], value: &[u8]) -> Option<Line>
-    ensures { IfSome result (λ says. Spells (settings_of format) (word.now ∷ number.now ∷ value.now ∷ []) says) }
-{
-    if word != b"RECORD".as_slice() {
-        return None;
-    }
-    let number = number_within(FILE_LEAST, FILE_MOST, number)?;
-    Some(Line::Record(number, Value::read(value)?))
-}
 
 /// The item that a word and a name spell.
 fn read_named(format: Format, word: &[u8], name: &[u8]) -> Option<Item>
@@ -73,24 +45,11 @@ fn read_numbered(format: Format, word: &[u8], name: &[u8], number: &[u8]) -> Opt
     None
 }
 
-/// The item that a word, a name, a number and a value spell.
-fn read_put(format: Format, word: &[u8], name: &[u8], number: &[u8], value: &[u8]) -> Option<Item>
-    ensures { IfSome result (λ item. SpellsItem format (word.now ∷ name.now ∷ number.now ∷ value.now ∷ []) item) }
-{
-    if word != b"PUT".as_slice() {
-        return None;
-    }
-    let unit = Name8::read(name)?;
-    let number = read_number(number)?;
-    Some(Item::Put(unit, number, Value::read(value)?))
-}
-
 /// The item that a word and its operands spell.
 fn read_item(format: Format, word: &[u8], operands: &[&[u8]]) -> Option<Item>
     ensures { IfSome result (λ item. SpellsItem format (word.now ∷ texts operands.now) item) }
 {
     match operands {
-        [name, number, value] => read_put(format, word, name, number, value),
         [name, number] => read_numbered(format, word, name, number),
         [name] => read_named(format, word, name),
         _ => None,
@@ -114,13 +73,12 @@ fn read_work(
     Some(Line::Work(site, read_item(format, item, operands)?))
 }
 
-/// The first record or the line of work that some words spell.
+/// The line of work that some words spell.
 #[inline(never)]
 pub(crate) fn read_by_words(format: Format, words: &[&[u8]]) -> Option<Line>
     ensures { IfSome result (λ says. Spells (settings_of format) (texts words.now) says) }
 {
     match words {
-        [word, number, value] => read_record(format, word, number, value),
         [word, site, item, operands @ ..] => read_work(format, word, site, item, operands),
         _ => None,
     }

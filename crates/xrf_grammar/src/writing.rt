@@ -1,6 +1,6 @@
 //! How a choice and a work item are written: one spelling of each.
 
-ghost use Rattle.std.specs.Prelude.{◌≡◌, ◌+◌, ◌<◌, ◌++◌, ◌∷◌, [], OnOk, codes};
+ghost use Rattle.std.specs.Prelude.{◌≡◌, ◌≤◌, ◌+◌, ◌<◌, ◌++◌, ◌∷◌, [], OnOk, codes};
 ghost use Rattle.std.specs.Fmt.{decimal};
 ghost use Rattle.xrf_cebt.specs.Command.{command_text};
 ghost use Rattle.xrf_grammar.specs.Spelling.{hex_digit, hex_text, piece_text, pieces_text, site_text, site_word, answer_word, landed_text, go_text, choice_text, item_text};
@@ -63,6 +63,28 @@ fn put_digits(out: &mut Vec<u8>, number: u64) -> Result<(), AllocError>
     put_text(out, &[hundred, ten, one])
 }
 
+// a number of two or three digits, as most of the others are, or of more
+#[tactic(auto, using(crate::proofs::NumberLaws::two_digits, crate::proofs::NumberLaws::three_digits))]
+fn put_two_or_more(out: &mut Vec<u8>, number: u64) -> Result<(), AllocError>
+    requires { 10 ≤ number }
+    ensures { OnOk result (out.new.items ≡ out.old.items ++ decimal number) }
+{
+    if number < 100 {
+        return put_text(
+            out,
+            &[decimal_digit(number / 10), decimal_digit(number % 10)],
+        );
+    }
+    if number < 1000 {
+        let ten = decimal_digit(number / 10 % 10);
+        return put_text(
+            out,
+            &[decimal_digit(number / 100), ten, decimal_digit(number % 10)],
+        );
+    }
+    put_digits(out, number)
+}
+
 // a number of one digit, as most are, is written in place
 #[inline(always)]
 #[tactic(auto, using(crate::proofs::NumberLaws::one_digit))]
@@ -72,7 +94,7 @@ fn put_number(out: &mut Vec<u8>, number: u64) -> Result<(), AllocError>
     if number < 10 {
         return put_text(out, &[decimal_digit(number)]);
     }
-    put_digits(out, number)
+    put_two_or_more(out, number)
 }
 
 const HEX_DIGITS: [u8; 16] = *b"0123456789abcdef";

@@ -41,6 +41,7 @@ pub enum Stage {
 
 impl Stage {
     /// The act, none at a boundary.
+    #[inline(always)]
     pub fn act(&self) -> Option<Want>
         ensures { result ≡ inside_of self.now }
     {

@@ -1,3 +1,4 @@
 pub mod LogLaws
+pub mod TailLaws
 pub mod KeyLaws
 pub mod Lists

@@ -1,8 +1,10 @@
-ghost use Rattle.std.specs.Prelude.{◌≡◌, ℕ, IfSome};
+ghost use Rattle.std.specs.Prelude.{◌≡◌, nat_eq, IfSome};
+ghost use Rattle.std.specs.Cmp.Lexicographic.{pointwise};
 ghost use Rattle.xrf_logrec.specs.declared.keypoints.Keypoint.{Keypoint};
 ghost use Rattle.xrf_logrec.specs.Keypoints.{is_keypoint, IsKeypoint, key_spelling, KeyIs, key_fields, key_reading};
 
 use byteorder::{BigEndian, ByteOrder};
+use xrf_base::is_zero_from;
 use xrf_gated::BodyRule;
 
 /// A keypoint: its number, at least 1, and the number of the log record from which a restart's scan
@@ -32,11 +34,19 @@ impl Keypoint {
             number: BigEndian::read_u32(&body[1..]),
             start: BigEndian::read_u32(&body[5..]),
         };
-        if keypoint.is_in_range() && keypoint.spelled() == *body {
+        if keypoint.is_in_range() && keypoint.is_alone_in(body) {
             Some(keypoint)
         } else {
             None
         }
+    }
+
+    // whether a body that has this keypoint's fields has its kind before them and nothing behind them
+    fn is_alone_in(&self, body: &[u8; 63]) -> bool
+        requires { key_fields body.now ≡ self.now }
+        ensures { result ≡ pointwise nat_eq (key_spelling self.now) body.now }
+    {
+        body[0] == 4 && is_zero_from(body, 9)
     }
 
     fn spelled(&self) -> [u8; 63]

@@ -1,9 +1,11 @@
-ghost use Rattle.std.specs.Prelude.{◌≡◌, ℕ, ◌++◌, replicate, IfSome};
+ghost use Rattle.std.specs.Prelude.{◌≡◌, ℕ, ◌++◌, drop, replicate, nat_eq, Some, IfSome};
+ghost use Rattle.std.specs.Cmp.Lexicographic.{pointwise};
+ghost use Rattle.byteorder.specs.Endian.{big_number};
 ghost use Rattle.xrf_logrec.specs.declared.records.LogRec.{LogRec};
 ghost use Rattle.xrf_logrec.specs.LogRecords.{unit_of, is_unit_id, is_log_record, IsLogRecord, head_of, spelling, LogIs, unit_in, before_image, fields_of, log_reading};
 
 use byteorder::{BigEndian, ByteOrder};
-use xrf_base::UnitId;
+use xrf_base::{UnitId, is_zero_from};
 use xrf_gated::BodyRule;
 
 /// A record of the unit log. Incarnation, serial and record number are at least 1.
@@ -60,10 +62,22 @@ impl LogRec {
     {
         let place = BigEndian::read_u32(&body[1..]);
         let rec = fields_in(body)?;
-        if rec.is_in_range() && rec.spelled(place) == *body {
+        if rec.is_in_range() && rec.is_alone_in(body) {
             Some((place, rec))
         } else {
             None
+        }
+    }
+
+    // whether a body that has this record's fields has nothing behind them
+    fn is_alone_in(&self, body: &[u8; 63]) -> bool
+        requires { fields_of body.now ≡ Some self.now }
+        ensures { result ≡ pointwise nat_eq (spelling (big_number 4 (drop 1 body.now)) self.now) body.now }
+    {
+        match self {
+            LogRec::Put { .. } => is_zero_from(body, 47),
+            LogRec::Commit { .. } => is_zero_from(body, 13),
+            LogRec::Backout { .. } => is_zero_from(body, 13),
         }
     }
 

@@ -2,6 +2,8 @@
 
 ghost use Rattle.std.specs.Prelude.{◌≡◌, ◌++◌, ◌&&◌, OnOk, IfOk, reverse};
 ghost use Rattle.xrf_cavm.specs.Record.{inc_of_owner};
+ghost use Rattle.xrf_ctl.specs.Control.{ControlRecord};
+ghost use Rattle.xrf_report.specs.Summary as summary;
 ghost use Rattle.xrf_report.specs.Summary.{stops, throughs, counted_line, made_lines, owner_lines, unit_lines, head_line, summary_text};
 ghost use Rattle.xrf_trace.specs.Landing.{is_stop, lands};
 ghost use Rattle.xrf_trace.specs.Throughs.{changes_owner};
@@ -10,7 +12,7 @@ ghost use Rattle.xrf_trace.specs.Devices.{control_after};
 use Piece::{Number, Text};
 use std::alloc::{AllocError, Global};
 use xrf_base::Inc;
-use xrf_ctl::{Control, Owner};
+use xrf_ctl::Owner;
 use xrf_grammar::writing::{Piece, put};
 use xrf_setup::Landing;
 use xrf_trace::{Act, Entry, Land};
@@ -33,18 +35,6 @@ fn lands(land: &Land) -> bool
     }
 }
 
-fn count_stops(journal: &[Entry]) -> u64
-    ensures { result ≡ stops (reverse journal.now) }
-{
-    let mut count = 0u64;
-    for entry in journal {
-        if is_stop(&entry.land) {
-            count += 1;
-        }
-    }
-    count
-}
-
 fn inc_of(owner: Option<Owner>) -> Inc
     ensures { result ≡ inc_of_owner owner }
 {
@@ -54,44 +44,56 @@ fn inc_of(owner: Option<Owner>) -> Inc
     }
 }
 
-fn changes_owner(before: &Control, act: &Act) -> bool
-    ensures { result ≡ changes_owner before.now act.now }
+// whether an entry writes another owner than this incarnation
+fn is_through(owner: Inc, entry: &Entry) -> bool
+    ensures { (before : ControlRecord) → inc_of_owner before.owner ≡ owner → result ≡ (lands entry.now.land && changes_owner before entry.now.act) }
 {
-    match act {
-        Act::CtlWrite(written) => inc_of(written.owner()) != inc_of(before.owner()),
+    match &entry.act {
+        Act::CtlWrite(written) => lands(&entry.land) && inc_of(written.owner()) != owner,
         _ => false,
     }
 }
 
-// the control record as an entry leaves it
-fn land_control(control: &mut Control, entry: &Entry)
-    ensures { control.new ≡ control_after entry.now.act entry.now.land control.old }
+// the owner's incarnation as an entry leaves it
+fn owner_after(owner: Inc, entry: &Entry) -> Inc
+    ensures { (before : ControlRecord) → inc_of_owner before.owner ≡ owner → result ≡ inc_of_owner (control_after entry.now.act entry.now.land before).owner }
 {
-    if let Act::CtlWrite(written) = &entry.act {
-        if lands(&entry.land) {
-            *control = *written;
+    match &entry.act {
+        Act::CtlWrite(written) => {
+            if lands(&entry.land) {
+                inc_of(written.owner())
+            } else {
+                owner
+            }
         }
+        _ => owner,
     }
 }
 
-fn is_through(before: &Control, entry: &Entry) -> bool
-    ensures { result ≡ (lands entry.now.land && changes_owner before.now entry.now.act) }
-{
-    lands(&entry.land) && changes_owner(before, &entry.act)
+/// How many entries of a journal are stops, and how many are throughs.
+#[derive(Drop)]
+struct EntryCounts {
+    stops: u64,
+    throughs: u64,
 }
 
-fn count_throughs(journal: &[Entry]) -> u64
-    ensures { result ≡ throughs (reverse journal.now) }
+fn count_entries(journal: &[Entry]) -> EntryCounts
+    ensures stops { result.stops ≡ stops (reverse journal.now) }
+    ensures throughs { result.throughs ≡ throughs (reverse journal.now) }
 {
-    let mut count = 0u64;
-    let mut control = Control::empty();
+    let mut stops = 0u64;
+    let mut throughs = 0u64;
+    let mut owner = 0;
     for entry in journal {
-        if is_through(&control, entry) {
-            count += 1;
+        if is_stop(&entry.land) {
+            stops += 1;
         }
-        land_control(&mut control, entry);
+        if is_through(owner, entry) {
+            throughs += 1;
+        }
+        owner = owner_after(owner, entry);
     }
-    count
+    EntryCounts { stops, throughs }
 }
 
 fn put_counted(alloc: Global, out: &mut Vec<u8>, word: &[u8], number: u64) -> Result<(), AllocError>
@@ -100,20 +102,31 @@ fn put_counted(alloc: Global, out: &mut Vec<u8>, word: &[u8], number: u64) -> Re
     put(alloc, out, &[Text(word), Number(number), Text(b"\n")])
 }
 
-fn put_made_lines(alloc: Global, out: &mut Vec<u8>, world: &World) -> Result<(), AllocError>
+fn put_made_lines(
+    alloc: Global,
+    out: &mut Vec<u8>,
+    world: &World,
+    stops: u64,
+) -> Result<(), AllocError>
+    requires { stops ≡ summary.stops world.now.trace }
     ensures { OnOk result (out.new.items ≡ out.old.items ++ made_lines world.now.trace) }
 {
-    let journal = world.journal();
-    put_counted(alloc, out, b"CHOICES ", journal.len() as u64)?;
+    put_counted(alloc, out, b"CHOICES ", world.journal().len() as u64)?;
     put_counted(alloc, out, b"TICKS ", world.now() as u64)?;
-    put_counted(alloc, out, b"STOPS ", count_stops(journal))
+    put_counted(alloc, out, b"STOPS ", stops)
 }
 
-fn put_owner_lines(alloc: Global, out: &mut Vec<u8>, world: &World) -> Result<(), AllocError>
+fn put_owner_lines(
+    alloc: Global,
+    out: &mut Vec<u8>,
+    world: &World,
+    throughs: u64,
+) -> Result<(), AllocError>
+    requires { throughs ≡ summary.throughs world.now.trace }
     ensures { OnOk result (out.new.items ≡ out.old.items ++ owner_lines world.now.trace) }
 {
     put_counted(alloc, out, b"INCARNATIONS ", world.control().last() as u64)?;
-    put_counted(alloc, out, b"THROUGHS ", count_throughs(world.journal()))
+    put_counted(alloc, out, b"THROUGHS ", throughs)
 }
 
 fn put_unit_lines(alloc: Global, out: &mut Vec<u8>, world: &World) -> Result<(), AllocError>
@@ -146,8 +159,9 @@ pub fn summary(alloc: Global, seed: u64, turns: u32, world: &World) -> Result<Ve
 {
     let mut out = Vec::new(alloc);
     put_head(alloc, &mut out, seed, turns)?;
-    put_made_lines(alloc, &mut out, world)?;
-    put_owner_lines(alloc, &mut out, world)?;
+    let counts = count_entries(world.journal());
+    put_made_lines(alloc, &mut out, world, counts.stops)?;
+    put_owner_lines(alloc, &mut out, world, counts.throughs)?;
     put_unit_lines(alloc, &mut out, world)?;
     put(alloc, &mut out, &[Text(b"DONE\n")])?;
     Ok(out)

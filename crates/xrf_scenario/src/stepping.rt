@@ -14,7 +14,6 @@ use crate::lines::{bytes_fault, is_report, is_skipped};
 use crate::reading::Reading;
 use crate::section::Section;
 use crate::stop::Stop;
-use std::alloc::Global;
 use xrf_grammar::{Line, Reason, read_choice, read_header, read_setting};
 use xrf_setup::Choice;
 
@@ -33,13 +32,13 @@ impl<'a> Reading<'a> {
         }
     }
 
-    fn take_setting_line(&mut self, alloc: Global, text: &[u8]) -> Result<(), Stop>
+    fn take_setting_line(&mut self, text: &[u8]) -> Result<(), Stop>
         requires section { self.old.section ≡ Settings }
         requires bytes { bytes_fault text.now ≡ None }
         ensures { (number : ℕ) → Takes result self.old self.new (take_line number self.old (words text.now) (line_of (settings_of self.old.format) (words text.now))) }
     {
         match read_setting(self.format, text) {
-            Ok(line) => self.take_setting(alloc, text, &line),
+            Ok(line) => self.take_setting(text, &line),
             Err(reason) => Err(Stop::Fault(reason)),
         }
     }
@@ -81,14 +80,14 @@ impl<'a> Reading<'a> {
         }
     }
 
-    fn take_words(&mut self, alloc: Global, number: u32, text: &'a [u8]) -> Result<(), Stop>
+    fn take_words(&mut self, number: u32, text: &'a [u8]) -> Result<(), Stop>
         requires shown { is_skipped text.now ≡ false }
         requires bytes { bytes_fault text.now ≡ None }
         ensures { Takes result self.old self.new (take_words self.old.section number self.old (words text.now)) }
     {
         match self.section {
             Section::Start => self.take_header(text),
-            Section::Settings => self.take_setting_line(alloc, text),
+            Section::Settings => self.take_setting_line(text),
             Section::Making => self.take_choice_line(number, text),
             Section::Whole => Err(Stop::Fault(Reason::AfterEnd)),
         }
@@ -96,7 +95,7 @@ impl<'a> Reading<'a> {
 
     /// Takes the next line, which has this number, or answers why it may not come, and then stays
     /// as it was.
-    pub fn step(&mut self, alloc: Global, number: u32, line: &'a [u8]) -> Result<(), Stop>
+    pub fn step(&mut self, number: u32, line: &'a [u8]) -> Result<(), Stop>
         ensures { Takes result self.old self.new (step number self.old line.now) }
     {
         if is_skipped(line) {
@@ -113,7 +112,7 @@ impl<'a> Reading<'a> {
         }
         match bytes_fault(line) {
             Some(reason) => Err(Stop::Fault(reason)),
-            None => self.take_words(alloc, number, line),
+            None => self.take_words(number, line),
         }
     }
 }

@@ -21,7 +21,7 @@ use crate::numbered::Numbered;
 use crate::reading::Reading;
 use crate::section::Section;
 use crate::stop::Stop;
-use std::alloc::{AllocError, Global};
+use std::alloc::AllocError;
 use xrf_base::{Site, Tick, Value};
 use xrf_clt::Clt;
 use xrf_grammar::{Line, Reason};
@@ -114,14 +114,14 @@ fn take_record(records: &mut Vec<Option<Value>>, number: u16, value: Value) -> R
     Ok(())
 }
 
-fn take_clt(alloc: Global, clt: &mut Clt, line: &[u8]) -> Result<(), Stop>
+fn take_clt(clt: &mut Clt, line: &[u8]) -> Result<(), Stop>
     requires { fault_of (behind (words line.now)) ≡ None }
     ensures { (put : List Kept → SoFar) → Takes result (put clt.old) (put clt.new) (with_room (nat_lt (length clt.old) CLT_MOST) (put (clt.old ++ words_kept (behind (words line.now)) ∷ []))) }
 {
     if clt.count() >= CLT_MOST {
         return Err(Stop::Fault(Reason::TooMany));
     }
-    clt.add(alloc, behind_first(line))?;
+    clt.add(behind_first(line))?;
     Ok(())
 }
 
@@ -148,14 +148,14 @@ fn begin_choices(section: &mut Section, records: &[Option<Value>], file: u16) ->
 
 impl<'a> Reading<'a> {
     /// Takes what a line before the choices says.
-    pub fn take_setting(&mut self, alloc: Global, text: &[u8], line: &Line) -> Result<(), Stop>
+    pub fn take_setting(&mut self, text: &[u8], line: &Line) -> Result<(), Stop>
         requires section { self.old.section ≡ Settings }
         requires line { IsLineSaid self.old.format (words text.now) line.now }
         ensures { (number : ℕ) → Takes result self.old self.new (take number self.old (words text.now) line.now) }
     {
         match line {
             Line::Record(number, value) => take_record(&mut self.records, *number, *value),
-            Line::Clt => take_clt(alloc, &mut self.clt, text),
+            Line::Clt => take_clt(&mut self.clt, text),
             Line::Work(site, item) => match site {
                 Site::A => push_within(&mut self.work_a, ITEMS_MOST, *item),
                 Site::B => push_within(&mut self.work_b, ITEMS_MOST, *item),

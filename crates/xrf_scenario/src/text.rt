@@ -54,7 +54,7 @@ fn read_lines<'a>(alloc: Global, text: &'a [u8]) -> Result<Reading<'a>, ReadBad>
     let mut count = 0u32;
     'lines: while let Some((line, behind)) = next_line(rest) {
         count += 1;
-        match reading.step(alloc, count, line) {
+        match reading.step(count, line) {
             Ok(()) => {}
             Err(stop) => return Err(bad_of(stop, count)),
         }

@@ -74,6 +74,7 @@ impl Alternate {
     }
 
     /// The act that it wants next.
+    #[inline(always)]
     pub(crate) fn want(&self) -> Want
         requires { (h : List Event) × Stands self.now h }
         ensures { (h : List Event) → Stands self.now h → result ≡ next self.now.settings h }

@@ -50,6 +50,7 @@ impl Standby {
     }
 
     /// The act that it wants next.
+    #[inline(always)]
     pub fn want(&self) -> Want
         requires { (h : List Event) × Stands self.now h }
         ensures { (h : List Event) → Stands self.now h → result ≡ next self.now.settings h }

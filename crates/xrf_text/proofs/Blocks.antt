@@ -6,7 +6,7 @@ use Rattle.std.proofs.lemmas.Simd.{tops_compared, zip2_splat_left, mask_l-mod, m
 use Rattle.std.proofs.lemmas.List.{length-map}
 use Rattle.std.proofs.lemmas.Bool.{and_parts, agree_below, agree_below_at}
 use Rattle.std.proofs.lemmas.Bool.Decides.{nat_tests}
-use Rattle.xrf_text.specs.Text.{words, is_blank, is_letter, is_printable}
+use Rattle.xrf_text.specs.Text.{words, is_blank, is_of_word, is_printable}
 
 -- No lane passes where no bit is set.
 pub none-set : (p : ℕ → Bool) (xs : List ℕ) → mask_l (map p xs) ≡ 0 → list_all (λ x. not (p x)) xs ≡ true
@@ -85,28 +85,28 @@ all-blank-over (suc n) (x ∷ xs) h = by (is_blank x) refl (λ k. all-blank-over
 one-less : (n x : ℕ) (xs : List ℕ) → drop (1 + n) (x ∷ xs) ≡ drop n xs
 one-less n x xs = let e : 1 + n ≡ suc n = omega arith in rw e refl
 
--- .. or those before a letter, ..
-pub blanks-over : (n : ℕ) (xs : List ℕ) → words (drop (position_or_len is_letter (take n xs)) xs) ≡ words xs
+-- .. or those before a word, ..
+pub blanks-over : (n : ℕ) (xs : List ℕ) → words (drop (position_or_len is_of_word (take n xs)) xs) ≡ words xs
 blanks-over zero xs = refl
 blanks-over (suc n) [] = refl
 blanks-over (suc n) (x ∷ xs) = by (is_blank x) refl (blanks-over n xs)
   where
-    by : (b : Bool) → is_blank x ≡ b → words (drop (position_or_len is_letter (take n xs)) xs) ≡ words xs
-        → words (drop (position_or_len is_letter (x ∷ take n xs)) (x ∷ xs)) ≡ words (x ∷ xs)
-    by true e more = rw e (rw (one-less (position_or_len is_letter (take n xs)) x xs) more)
+    by : (b : Bool) → is_blank x ≡ b → words (drop (position_or_len is_of_word (take n xs)) xs) ≡ words xs
+        → words (drop (position_or_len is_of_word (x ∷ take n xs)) (x ∷ xs)) ≡ words (x ∷ xs)
+    by true e more = rw e (rw (one-less (position_or_len is_of_word (take n xs)) x xs) more)
     by false e more = rw e (rw e refl)
 
--- .. and behind them stands a letter.
-pub letter-at : (n : ℕ) (xs : List ℕ) → position_or_len is_letter (take n xs) < n → n ≤ length xs → (rest : List ℕ) → drop (position_or_len is_letter (take n xs)) xs ≢ 32 ∷ rest
-letter-at zero xs few le rest = absurd (omega arith)
-letter-at (suc n) [] few le rest = absurd (omega arith)
-letter-at (suc n) (x ∷ xs) few le rest = by (is_blank x) refl (λ f. letter-at n xs f (omega arith) rest)
+-- .. and behind them stands a word.
+pub of_word-at : (n : ℕ) (xs : List ℕ) → position_or_len is_of_word (take n xs) < n → n ≤ length xs → (rest : List ℕ) → drop (position_or_len is_of_word (take n xs)) xs ≢ 32 ∷ rest
+of_word-at zero xs few le rest = absurd (omega arith)
+of_word-at (suc n) [] few le rest = absurd (omega arith)
+of_word-at (suc n) (x ∷ xs) few le rest = by (is_blank x) refl (λ f. of_word-at n xs f (omega arith) rest)
   where
-    by : (b : Bool) → is_blank x ≡ b → (position_or_len is_letter (take n xs) < n → drop (position_or_len is_letter (take n xs)) xs ≢ 32 ∷ rest)
-        → drop (position_or_len is_letter (x ∷ take n xs)) (x ∷ xs) ≢ 32 ∷ rest
+    by : (b : Bool) → is_blank x ≡ b → (position_or_len is_of_word (take n xs) < n → drop (position_or_len is_of_word (take n xs)) xs ≢ 32 ∷ rest)
+        → drop (position_or_len is_of_word (x ∷ take n xs)) (x ∷ xs) ≢ 32 ∷ rest
     by true e more =
-        let one : 1 + position_or_len is_letter (take n xs) < suc n = rw e at few in
-        rw e (rw (one-less (position_or_len is_letter (take n xs)) x xs) (more (omega arith)))
+        let one : 1 + position_or_len is_of_word (take n xs) < suc n = rw e at few in
+        rw e (rw (one-less (position_or_len is_of_word (take n xs)) x xs) (more (omega arith)))
     by false e more = rw e (λ (same : x ∷ xs ≡ 32 ∷ rest). let blank : x ≡ 32 = cc in let is : is_blank x ≡ true = eq-eqb x 32 blank in cc)
 
 -- What passes in front changes nothing of whether all pass.

@@ -1,6 +1,6 @@
 -- The words that are held, one after the other.
-use Rattle.std.proofs.Common.{◌≡◌, ◌<◌, ◌+◌, ℕ, List, [], ◌∷◌, ◌++◌, length, take, slice_set, Bor, refl, sym, ap, ◌∙◌}
-use Rattle.std.proofs.lemmas.List.{take_more_set, append_assoc, append-nil}
+use Rattle.std.proofs.Common.{◌≡◌, ◌<◌, ◌≤◌, ◌+◌, ℕ, suc, List, [], ◌∷◌, ◌++◌, length, take, slice_set, Bor, refl, sym, ap, ◌∙◌}
+use Rattle.std.proofs.lemmas.List.{take_more_set, append_assoc, append-nil, length-take-le}
 use Rattle.xrf_text.specs.Text.{texts}
 
 texts-both : (xs ys : List (Bor (List ℕ))) → texts (xs ++ ys) ≡ texts xs ++ texts ys
@@ -17,3 +17,11 @@ held-more ws n word all before after room held next =
 -- Where no word is left, all are held.
 pub held-all : (held all left : List (List ℕ)) → held ++ left ≡ all → left ≡ [] → held ≡ all
 held-all held all left both none = sym (append-nil held) ∙ ap (λ (l : List (List ℕ)). held ++ l) (sym none) ∙ both
+
+length-texts : (ws : List (Bor (List ℕ))) → length (texts ws) ≡ length ws
+length-texts [] = refl
+length-texts (w ∷ ws) = ap suc (length-texts ws)
+
+-- Where all are held, there are as many as are held.
+pub held-count : (ws : List (Bor (List ℕ))) (n : ℕ) (all : List (List ℕ)) → n ≤ length ws → texts (take n ws) ≡ all → length all ≡ n
+held-count ws n all inside held = sym (ap length held) ∙ length-texts (take n ws) ∙ length-take-le n ws inside

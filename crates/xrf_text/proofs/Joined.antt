@@ -6,8 +6,8 @@ use Rattle.xrf_text.specs.Text.{words, is_blank, is_filled, IsWord}
 abbrev NoBlank : List ℕ → Type 0
 NoBlank = AllByRecursion (λ b. b ≢ 32)
 
-letter : (b : ℕ) → b ≢ 32 → is_blank b ≡ false
-letter b other = by (is_blank b) refl
+of_word : (b : ℕ) → b ≢ 32 → is_blank b ≡ false
+of_word b other = by (is_blank b) refl
   where
     by : (blank : Bool) → is_blank b ≡ blank → is_blank b ≡ false
     by true e = absurd (other (eqb-true b 32 e))
@@ -41,11 +41,11 @@ words-are_words line = filled_are_words (slice_split is_blank line) (parts_no_bl
 -- A word before a blank is the first part.
 before_blank : (word rest : List ℕ) → NoBlank word → slice_split is_blank (word ++ 32 ∷ rest) ≡ word ∷ slice_split is_blank rest
 before_blank [] rest all = refl
-before_blank (b ∷ bs) rest all = rw (letter b all.0) (ap (onto_first b) (before_blank bs rest all.1))
+before_blank (b ∷ bs) rest all = rw (of_word b all.0) (ap (onto_first b) (before_blank bs rest all.1))
 
 alone : (word : List ℕ) → NoBlank word → slice_split is_blank word ≡ word ∷ []
 alone [] all = refl
-alone (b ∷ bs) all = rw (letter b all.0) (ap (onto_first b) (alone bs all.1))
+alone (b ∷ bs) all = rw (of_word b all.0) (ap (onto_first b) (alone bs all.1))
 
 kept : (word : List ℕ) (others : List (List ℕ)) → word ≢ [] → filter is_filled (word ∷ others) ≡ word ∷ filter is_filled others
 kept [] others some = absurd (some refl)

@@ -4,3 +4,4 @@ pub mod Lines
 pub mod Joined
 pub mod Held
 pub mod Blocks
+pub mod Search

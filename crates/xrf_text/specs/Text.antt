@@ -11,8 +11,8 @@ abbrev pub is_blank : ℕ → Bool
 is_blank b = b == 32
 
 -- a byte of a word
-abbrev pub is_letter : ℕ → Bool
-is_letter b = not (is_blank b)
+abbrev pub is_of_word : ℕ → Bool
+is_of_word b = not (is_blank b)
 
 -- a byte from blank to `~`
 abbrev pub is_printable : ℕ → Bool

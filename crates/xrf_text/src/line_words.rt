@@ -1,6 +1,6 @@
 //! The words of a line, split once.
 
-ghost use Rattle.std.specs.Prelude.{◌≡◌, [], IsTrue};
+ghost use Rattle.std.specs.Prelude.{◌≡◌, ◌≤◌, ◌↔◌, [], length, IsTrue};
 ghost use Rattle.xrf_text.specs.Text.{words, texts};
 
 use crate::split_word;
@@ -42,7 +42,8 @@ impl<'a> LineWords<'a> {
     /// Holds the words of a line in place of those before. False where there are more than 8: then
     /// it is not said which are held.
     pub fn split(&mut self, line: &'a [u8]) -> bool
-        ensures { IsTrue result → self.new ≡ words line.now }
+        ensures held { IsTrue result → self.new ≡ words line.now }
+        ensures few { IsTrue result ↔ length (words line.now) ≤ 8 }
     {
         let mut count = 0;
         let mut rest = line;

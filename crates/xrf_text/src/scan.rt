@@ -3,7 +3,7 @@
 ghost use Rattle.std.specs.Prelude.{if◌then◌else◌, ◌==◌, ◌≡◌, ◌≤◌, ◌≢◌, ◌+◌, ◌∷◌, ℕ, List, true, not, nat_lt, IsTrue, length, take, drop};
 ghost use Rattle.std.specs.Int.{w64, trailing_zeros};
 ghost use Rattle.std.specs.List.{list_all, position, position_or_len};
-ghost use Rattle.xrf_text.specs.Text.{words, is_blank, is_letter, is_line_feed, is_printable};
+ghost use Rattle.xrf_text.specs.Text.{words, is_blank, is_of_word, is_line_feed, is_printable};
 
 use std::simd::prelude::*;
 
@@ -43,10 +43,10 @@ fn before_blank(block: u8x8) -> usize
     first_set(block.simd_eq(u8x8::splat(b' ')).to_bitmask(), SHORT)
 }
 
-/// How many bytes of a block stand before its first letter: all 32 where it has none.
+/// How many bytes of a block stand before its first word: all 32 where it has none.
 #[inline]
-fn before_letter(block: u8x32) -> usize
-    ensures place { result ≡ position_or_len is_letter block }
+fn before_word(block: u8x32) -> usize
+    ensures place { result ≡ position_or_len is_of_word block }
     ensures inside { result ≤ 32 }
 {
     first_set(block.simd_ne(u8x32::splat(b' ')).to_bitmask(), BLOCK)
@@ -171,7 +171,7 @@ fn behind_blanks(line: &[u8]) -> &[u8]
         rest = behind_block(rest);
     }
     if rest.len() >= BLOCK {
-        let before = before_letter(block_at(rest, 0));
+        let before = before_word(block_at(rest, 0));
         if before < BLOCK {
             return behind(rest, before);
         }

@@ -9,6 +9,7 @@ pub mod ReachLaws
 pub mod BesideLaws
 pub mod MadeLaws
 pub mod ItemLaws
+pub mod LeastLaws
 pub mod ChoiceLaws
 pub mod WorldLaws
 pub mod ImageLaws

@@ -1,5 +1,5 @@
 -- What a report reads of a trace: the jobs, the items, the log, and what is enabled.
-use Rattle.std.specs.Prelude.{ℕ, zero, suc, Bool, true, false, ◌&&◌, ◌||◌, not, nat_lt, nat_le, ◌==◌, is_some, is_none, if◌then◌else◌, List, length, Option, Some, None}
+use Rattle.std.specs.Prelude.{◌≡◌, ◌<◌, ℕ, zero, suc, Bool, true, false, ◌&&◌, ◌||◌, not, nat_lt, nat_le, ◌==◌, is_some, is_none, if◌then◌else◌, List, length, Option, Some, None}
 use Rattle.std.specs.Option.{option_and_then, option_map}
 use Rattle.xrf_base.specs.declared.items.ItemAnswer.{ItemAnswer}
 use Rattle.xrf_base.specs.declared.site.Site.{Site}
@@ -101,6 +101,11 @@ or_if None holds n = if holds then Some n else None
 abbrev pub least_to : (ℕ → Bool) → ℕ → Option ℕ
 least_to test zero = None
 least_to test (suc n) = or_if (least_to test n) (test (suc n)) (suc n)
+
+-- a number is the least of all of which a test holds, and none where it holds of none
+abbrev pub IsLeast : (ℕ → Bool) → Option ℕ → Type 0
+IsLeast test None = (n : ℕ) → test n ≡ false
+IsLeast test (Some n) = (test n ≡ true) × ((m : ℕ) → m < n → test m ≡ false)
 
 -- the least number that CONFIRM accepts and that is not yet confirmed: it was given
 abbrev pub least_confirmable : Scen → List Entry → Option ℕ

@@ -90,6 +90,18 @@ impl Pair {
         }
     }
 
+    /// STEP.
+    pub(crate) fn step(&mut self, site: Site) -> Result<(), Refused>
+        requires { (t : List Made) × Stands self.old t × Goes self.old.middle.scenario t }
+        ensures { (t : List Made) → Stands self.old t → Goes self.old.middle.scenario t → Makes self.old t (choice.Step site) result self.new }
+    {
+        let is_free = self.is_reserve_free();
+        match site {
+            Site::A => step(&mut self.middle, &mut self.a, site, is_free),
+            Site::B => step(&mut self.middle, &mut self.b, site, is_free),
+        }
+    }
+
     /// An EXIT that is not refused.
     pub(crate) fn exit_said(&mut self, site: Site, said: ExitAnswer)
         requires { (t : List Made) × Stands self.old t × Goes self.old.middle.scenario t
@@ -104,8 +116,8 @@ impl Pair {
         }
     }
 
-    // TICK
-    fn tick(&mut self)
+    /// TICK.
+    pub(crate) fn tick(&mut self)
         requires { (t : List Made) × Stands self.old t × Goes self.old.middle.scenario t }
         ensures { (t : List Made) → Stands self.old t → Goes self.old.middle.scenario t → Makes self.old t choice.Tick (Ok tt) self.new }
     {

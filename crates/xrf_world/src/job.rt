@@ -48,6 +48,7 @@ pub(crate) enum Job {
 
 impl Job {
     // the act that it wants next, none where no job is there
+    #[inline(always)]
     pub(crate) fn want(&self) -> Want
         requires { (p : Set) × (job : Option (List Event)) × JobIs self.now p job × FewEvents job }
         ensures { (p : Set) (job : Option (List Event)) → JobIs self.now p job → result ≡ want_of p job }

@@ -101,6 +101,7 @@ pub(crate) fn enter(
 }
 
 /// Makes an act that the job at a site wants, lands what is to land of it, and hands the job an answer.
+#[inline(always)]
 pub(crate) fn make_act(
     answer: &Answer,
     middle: &mut Middle,

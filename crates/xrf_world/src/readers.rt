@@ -44,8 +44,10 @@ impl World {
     }
 
     /// The least number that CONFIRM accepts and that is not yet confirmed, none where CONFIRM accepts no such number.
+    #[tactic(auto, using(crate::proofs::LeastLaws::is_least))]
     pub fn least_confirmable(&self) -> Option<Inc>
-        ensures { result ≡ report.least_confirmable self.now.scenario self.now.trace }
+        ensures found { result ≡ report.least_confirmable self.now.scenario self.now.trace }
+        ensures least { report.IsLeast (report.may_be_confirmed self.now.scenario self.now.trace) result }
     {
         self.pair.least_confirmable()
     }

@@ -159,6 +159,7 @@ impl Seat {
     }
 
     /// Hands its job an answer, and gives that of the item that it ends.
+    #[inline(always)]
     pub(crate) fn take(&mut self, answer: &Answer) -> Option<ItemAnswer>
         requires { (p : Set) × (h : List Event) × SeatIs self.old p (Some h) × MayBeHanded p h answer.now }
         ensures seat { (p : Set) (h : List Event) → SeatIs self.old p (Some h) → MayBeHanded p h answer.now → SeatIs self.new p (Some (event p h answer.now ∷ h)) }

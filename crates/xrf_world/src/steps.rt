@@ -39,6 +39,7 @@ fn make_block_read(middle: &mut Middle, place: &mut Place, site: Site, block: u3
 }
 
 // an act is made of which its job is told that it is done
+#[inline(always)]
 fn make_done(middle: &mut Middle, place: &mut Place, site: Site, want: &Want, land: &Land)
     requires { (t : List Made) × (c : Choice) × StandsAt middle.old place.old t site × IsMade middle.old.scenario t site want.now land.now c
         × ((h : List Event) → answer_of middle.old.scenario t site h want.now ≡ answers.Done (now t)) }
@@ -50,6 +51,7 @@ fn make_done(middle: &mut Middle, place: &mut Place, site: Site, want: &Want, la
 }
 
 // an act is made of which its job is told more, and no block of the log
+#[inline(always)]
 fn make_told(middle: &mut Middle, place: &mut Place, site: Site, want: &Want, land: &Land)
     requires small { reads_block want.now ≡ false }
     requires made { (t : List Made) × (c : Choice) × StandsAt middle.old place.old t site × IsMade middle.old.scenario t site want.now land.now c }
@@ -67,6 +69,7 @@ fn make_told(middle: &mut Middle, place: &mut Place, site: Site, want: &Want, la
 }
 
 // the next act, in full or as a signal that is lost
+#[inline(always)]
 fn make_next(middle: &mut Middle, place: &mut Place, site: Site, want: &Want, land: &Land)
     requires { (t : List Made) × (c : Choice) × StandsAt middle.old place.old t site × IsMade middle.old.scenario t site want.now land.now c }
     ensures { (t : List Made) (c : Choice) → StandsAt middle.old place.old t site → IsMade middle.old.scenario t site want.now land.now c

@@ -53,6 +53,26 @@ fn advance(pair: &mut Pair, choice: &Choice) -> Result<(), Refused>
     pair.choose(choice)
 }
 
+// STEP of a site
+fn advance_step(pair: &mut Pair, site: Site) -> Result<(), Refused>
+    requires world { IsWorld pair.old }
+    requires room { length pair.old.middle.journal.items < CHOICES_MOST }
+    ensures world { IsWorld pair.new }
+    ensures applied { Applied (run_of pair.old) (choice.Step site) result (run_of pair.new) }
+{
+    pair.step(site)
+}
+
+// TICK
+fn advance_tick(pair: &mut Pair)
+    requires world { IsWorld pair.old }
+    requires room { length pair.old.middle.journal.items < CHOICES_MOST }
+    ensures world { IsWorld pair.new }
+    ensures applied { Applied (run_of pair.old) choice.Tick (Ok tt) (run_of pair.new) }
+{
+    pair.tick();
+}
+
 // an EXIT that is not refused
 fn advance_exit(pair: &mut Pair, site: Site, said: ExitAnswer)
     requires world { IsWorld pair.old }
@@ -84,6 +104,28 @@ impl World {
         ensures book { flight (log self.new.trace) ≡ [] → IsBookAt self.new.scenario self.new.trace }
     {
         advance(&mut self.pair, choice)
+    }
+
+    /// STEP of a site, as `apply` makes it.
+    pub fn step(&mut self, site: Site) -> Result<(), Refused>
+        requires room { length self.old.trace < CHOICES_MOST }
+        ensures applied { Applied self.old (choice.Step site) result self.new }
+        ensures safe { Safe self.new.scenario self.new.trace }
+        ensures promises { Promises self.new.scenario self.new.trace }
+        ensures book { flight (log self.new.trace) ≡ [] → IsBookAt self.new.scenario self.new.trace }
+    {
+        advance_step(&mut self.pair, site)
+    }
+
+    /// TICK, as `apply` makes it: it is never refused.
+    pub fn tick(&mut self)
+        requires room { length self.old.trace < CHOICES_MOST }
+        ensures applied { Applied self.old choice.Tick (Ok tt) self.new }
+        ensures safe { Safe self.new.scenario self.new.trace }
+        ensures promises { Promises self.new.scenario self.new.trace }
+        ensures book { flight (log self.new.trace) ≡ [] → IsBookAt self.new.scenario self.new.trace }
+    {
+        advance_tick(&mut self.pair);
     }
 
     /// The exit of the job at a site has answered the notice that is pending: the entry of that EXIT is added. It takes

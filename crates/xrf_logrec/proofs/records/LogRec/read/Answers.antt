@@ -4,8 +4,8 @@ use Rattle.xrf_logrec.specs.LogRecords.{log_reading}
 use Rattle.xrf_logrec.proofs.LogLaws.{log_reading-spelled}
 use Rattle.xrf_logrec.proofs.records.LogRec.read.Goals as goal
 
-pub returns-then-eq-clause-only : goal.returns-then-eq-clause-only
-returns-then-eq-clause-only c place rec is =
+pub returns-then-is_alone_in-clause-only : goal.returns-then-is_alone_in-clause-only
+returns-then-is_alone_in-clause-only c place rec is =
     let exact : Some (c.read_u32-place.result, c.in_ok-rec.rec) ≡ log_reading c.args.body.now = search rules in
     exact ∙ log_reading-spelled c.args.body.now place rec is
 

@@ -1,5 +1,5 @@
 -- What is made of a place, from what its entry is.
-use Rattle.std.proofs.Common.{◌≡◌, ◌≤◌, ◌∙◌, ℕ, List, ◌∷◌, length, Option, Some, Ok, sym, ap, subst}
+use Rattle.std.proofs.Common.{Box, Global, ◌≡◌, ◌≤◌, ◌∙◌, ℕ, List, ◌∷◌, length, Option, Some, Ok, sym, ap, subst}
 use Rattle.xrf_active.specs.Taking.{MayBeHanded}
 use Rattle.xrf_base.specs.declared.items.ItemAnswer.{ItemAnswer}
 use Rattle.xrf_base.specs.declared.site.Site.{Site}
@@ -67,7 +67,7 @@ seat-of-job old place t x w l a stands m =
     subst (λ (job : Option (List Event)). SeatIs place.seat (settings old.scenario x) job) m.there stands.place.seat
 
 -- A job that is handed an answer leaves all else as it stood, and so does a block that was copied for it.
-pub is-handed : (old : Middle) (block : List ℕ) (place : Place) (seat : Seat) (t : List Entry) (x : Site) (w : Want) (l : Land) (a : Answer)
+pub is-handed : (old : Middle) (block : Box (List ℕ) Global) (place : Place) (seat : Seat) (t : List Entry) (x : Site) (w : Want) (l : Land) (a : Answer)
     (inc : ℕ) (given : Option ItemAnswer) → StandsAt old place t x → (m : MayMake old.scenario t x w l a)
     → ((p : Settings) (h : List Event) → SeatIs place.seat p (Some h) → inc ≡ inc_of_want w (number h))
     → ((p : Settings) (h : List Event) → SeatIs place.seat p (Some h) → MayBeHanded p h a → SeatIs seat p (Some (event p h a ∷ h)))

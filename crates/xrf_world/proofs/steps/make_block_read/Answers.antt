@@ -47,11 +47,11 @@ enter-requires c =
     let m : MayMake s t x w l answer =
     subst (λ (a : Answer). MayMake s t x w l a)
     (sym (c.block_answer-answer.ensures s t stands.middle.data_sets ∙ ap (block_answer s t c.args.block) read)) made.may in
-    let is_inc : (p : Settings) (h : List Event) → SeatIs place.seat p (Some h) → c.inc.result ≡ number h = λ p h there. c.inc.ensures p (Some h) there in (
+    let is_inc : (p : Settings) (h : List Event) → SeatIs place.seat p (Some h) → c.inc-inc.result ≡ number h = λ p h there. c.inc-inc.ensures p (Some h) there in (
       t,
       answer,
       m,
-      is-handed old c.block_answer-answer.new.bytes place c.take-given.new.self t x w l answer c.inc.result c.take-given.result stands m is_inc
+      is-handed old _ place c.take-given.new.self t x w l answer c.inc-inc.result c.take-given.result stands m is_inc
           c.take-given.ensures.seat c.take-given.ensures.answer,
     )
 
@@ -69,10 +69,10 @@ returns c = λ t chosen stands made.
     let answer = c.block_answer-answer.result in
     let read : place.seat.has_read ≡ has_read_block made.job =
     subst (λ (job : Option (List Event)). IfSome job (λ h. place.seat.has_read ≡ has_read_block h)) made.there stands.place.seat.has_read in
-    let is_inc : (p : Settings) (h : List Event) → SeatIs place.seat p (Some h) → c.inc.result ≡ number h = λ p h there. c.inc.ensures p (Some h) there in
+    let is_inc : (p : Settings) (h : List Event) → SeatIs place.seat p (Some h) → c.inc-inc.result ≡ number h = λ p h there. c.inc-inc.ensures p (Some h) there in
     let makes : MakesEntry old place t x new after w l answer =
     λ m here. c.enter.ensures.made t answer m
-    (is-handed old c.block_answer-answer.new.bytes place c.take-given.new.self t x w l answer c.inc.result c.take-given.result here m is_inc
+    (is-handed old _ place c.take-given.new.self t x w l answer c.inc-inc.result c.take-given.result here m is_inc
     c.take-given.ensures.seat c.take-given.ensures.answer) in
     act-made old place t x chosen new after w l (answer_of s t x made.job w)
     (subst (λ (a : Answer). MakesEntry old place t x new after w l a)

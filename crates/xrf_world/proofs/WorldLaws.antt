@@ -38,11 +38,17 @@ pub goes-on : (pair : Pair) → IsWorld pair → length pair.middle.journal.item
 goes-on pair w room = record { scen = w.scen; run = w.run; few = omega (arith, room, length-reverse pair.middle.journal.items) }
 
 -- its run is safe and keeps the promises, and wherever no unit is in flight the file is the book
-pub is-safe : (pair : Pair) → IsWorld pair → Safe pair.middle.scenario (run_of pair).trace × Promises pair.middle.scenario (run_of pair).trace
-is-safe pair w = every-run pair.middle.scenario (run_of pair).trace w.scen w.run (trace-few pair w)
+safe : (pair : Pair) → IsWorld pair → Safe pair.middle.scenario (run_of pair).trace × Promises pair.middle.scenario (run_of pair).trace
+safe pair w = every-run pair.middle.scenario (run_of pair).trace w.scen w.run (trace-few pair w)
 
-pub is-book : (pair : Pair) → IsWorld pair → flight (log (run_of pair).trace) ≡ [] → IsBookAt pair.middle.scenario (run_of pair).trace
-is-book pair w = (data-sets-stand pair.middle.scenario (run_of pair).trace w.scen w.run (trace-few pair w)).book
+pub is_safe : (pair : Pair) → IsWorld pair → Safe pair.middle.scenario (run_of pair).trace
+is_safe pair w = (safe pair w).0
+
+pub keeps_promises : (pair : Pair) → IsWorld pair → Promises pair.middle.scenario (run_of pair).trace
+keeps_promises pair w = (safe pair w).1
+
+pub file_is_book : (pair : Pair) → IsWorld pair → flight (log (run_of pair).trace) ≡ [] → IsBookAt pair.middle.scenario (run_of pair).trace
+file_is_book pair w = (data-sets-stand pair.middle.scenario (run_of pair).trace w.scen w.run (trace-few pair w)).book
 
 -- the jobs of its run have few events
 few-of-run : (s : Scen) (t : List Entry) (x : Site) → IsRun s t → length t ≤ CHOICES_MOST → FewEvents (hist s t x)

@@ -96,6 +96,7 @@ impl World {
 
     /// Makes a choice: one entry is added, or the choice is refused and nothing changes. It takes no memory. The run
     /// stays safe, and wherever no unit is in flight the file is the book.
+    #[tactic(auto, using(crate::proofs::WorldLaws::is_safe, crate::proofs::WorldLaws::keeps_promises, crate::proofs::WorldLaws::file_is_book))]
     pub fn apply(&mut self, choice: &Choice) -> Result<(), Refused>
         requires room { length self.old.trace < CHOICES_MOST }
         ensures applied { Applied self.old choice.now result self.new }
@@ -107,6 +108,7 @@ impl World {
     }
 
     /// STEP of a site, as `apply` makes it.
+    #[tactic(auto, using(crate::proofs::WorldLaws::is_safe, crate::proofs::WorldLaws::keeps_promises, crate::proofs::WorldLaws::file_is_book))]
     pub fn step(&mut self, site: Site) -> Result<(), Refused>
         requires room { length self.old.trace < CHOICES_MOST }
         ensures applied { Applied self.old (choice.Step site) result self.new }
@@ -118,6 +120,7 @@ impl World {
     }
 
     /// TICK, as `apply` makes it: it is never refused.
+    #[tactic(auto, using(crate::proofs::WorldLaws::is_safe, crate::proofs::WorldLaws::keeps_promises, crate::proofs::WorldLaws::file_is_book))]
     pub fn tick(&mut self)
         requires room { length self.old.trace < CHOICES_MOST }
         ensures applied { Applied self.old choice.Tick (Ok tt) self.new }
@@ -130,6 +133,7 @@ impl World {
 
     /// The exit of the job at a site has answered the notice that is pending: the entry of that EXIT is added. It takes
     /// no memory.
+    #[tactic(auto, using(crate::proofs::WorldLaws::is_safe, crate::proofs::WorldLaws::keeps_promises, crate::proofs::WorldLaws::file_is_book))]
     pub fn exit_said(&mut self, site: Site, answer: ExitAnswer)
         requires room { length self.old.trace < CHOICES_MOST }
         requires pending { (told : Told) × (notice_at self.old.scenario self.old.trace site ≡ Some told) × IsTrue (is_allowed told answer) }

@@ -8,9 +8,10 @@ use Rattle.xrf_run.proofs.threads.live_as.Goals as goal
 -- both closures are callable and answer what is allowed and may be said; that what they hold may be sent and shared is
 -- left to the search
 pub join-requires-after_bounds : goal.join-requires-after_bounds
-join-requires-after_bounds g = λ at lifetimes outlive.
-    (λ inner shared is within bounds. (at.requires.callable, (at.requires.allowed, at.requires.may)),
-     (at.requires.callable, (at.requires.allowed, (at.requires.may, search rules))))
+join-requires-after_bounds g = λ at lifetimes outlive. (
+  λ inner shared is within bounds. (at.requires.callable, (at.requires.allowed, at.requires.may)),
+  (at.requires.callable, (at.requires.allowed, (at.requires.may, search rules))),
+)
 
 pub returns : goal.returns
 returns g c =

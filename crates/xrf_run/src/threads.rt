@@ -83,6 +83,28 @@ fn work_beside<
     );
 }
 
+// all three threads: the worker of site A beside the other two
+fn work_together<
+    N: RunName + Send + Sync,
+    R: Threads + Wait + Sync,
+    G: Gate + Sync,
+    F: Fn(Notice) -> ExitAnswer + Sync,
+>(rt: &R, gate: &G, shared: &Mutex<Shared<N>>, exit: &StatusExit<F>)
+    requires callable { F.IsAlwaysCallable exit.now.closure }
+    requires allowed { AnswersAllowed (F.post exit.now.closure) }
+    requires may { UponLoss (F.post exit.now.closure) N.may }
+{
+    join(
+        rt,
+        || work_at(rt, gate, shared, Site::A, exit),
+        ||
+            requires callable { F.IsAlwaysCallable exit.now.closure }
+            requires allowed { AnswersAllowed (F.post exit.now.closure) }
+            requires may { UponLoss (F.post exit.now.closure) N.may }
+        { work_beside(rt, gate, shared, exit) },
+    );
+}
+
 fn live_as<
     N: RunName + Send + Sync,
     R: Threads + Wait + Sync,
@@ -102,16 +124,7 @@ fn live_as<
     ensures { IfOk result (λ r. IsLive N.scenario N.may r.0 r.1.items) }
 {
     let lock = Mutex::new(Shared::<N>::new(alloc, scenario)?);
-    let shared = &lock;
-    join(
-        rt,
-        || work_at(rt, gate, shared, Site::A, exit),
-        ||
-            requires callable { F.IsAlwaysCallable exit.now.closure }
-            requires allowed { AnswersAllowed (F.post exit.now.closure) }
-            requires may { UponLoss (F.post exit.now.closure) N.may }
-        { work_beside(rt, gate, shared, exit) },
-    );
+    work_together(rt, gate, &lock, exit);
     let mut alone = lock.into_inner();
     alone.finish_alone(exit);
     Ok(alone.into_parts())

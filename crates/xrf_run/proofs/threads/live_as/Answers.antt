@@ -1,17 +1,9 @@
-use Rattle.std.proofs.Common.{◌≤◌, List, length, reverse, ap, subst, sym, rules}
+use Rattle.std.proofs.Common.{◌≤◌, List, length, reverse, ap, subst, sym}
 use Rattle.xrf_setup.specs.declared.choice.Choice.{Choice}
 use Rattle.xrf_setup.specs.declared.ranges.TheConstants.{CHOICES_MOST}
 use Rattle.xrf_world.specs.Runs.{Run}
 use Rattle.xrf_run.specs.Threaded.{IsThreadedRun}
 use Rattle.xrf_run.proofs.threads.live_as.Goals as goal
-
--- both closures are callable and answer what is allowed and may be said; that what they hold may be sent and shared is
--- left to the search
-pub join-requires-after_bounds : goal.join-requires-after_bounds
-join-requires-after_bounds g = λ at lifetimes outlive. (
-  λ inner shared is within bounds. (at.requires.callable, (at.requires.allowed, at.requires.may)),
-  (at.requires.callable, (at.requires.allowed, (at.requires.may, search rules))),
-)
 
 pub returns : goal.returns
 returns g c =

@@ -62,6 +62,7 @@ fn exit_answer(notice: Notice) -> ExitAnswer
 }
 
 // EXIT at a site where a notice is pending there
+#[inline(always)]
 fn exit(world: &mut World, site: Site) -> bool
     requires room { length world.old.trace < CHOICES_MOST }
     ensures { Tried world.old (exit_at world.old.scenario world.old.trace site) result world.new }
@@ -103,6 +104,7 @@ fn tick(world: &mut World)
 }
 
 // EXIT at the first site where a notice is pending
+#[inline(always)]
 fn exit_of_any(world: &mut World) -> bool
     requires room { length world.old.trace < CHOICES_MOST }
     ensures { Tried world.old (exit_of_any world.old.scenario world.old.trace) result world.new }
@@ -180,6 +182,7 @@ fn step_of_other(world: &mut World, site: Site) -> bool
 }
 
 // STEP of a site that is drawn, where it is enabled, else what takes its place: the STEP that was refused is not asked again
+#[inline(always)]
 fn step_or(world: &mut World, site: Site)
     requires room { length world.old.trace < CHOICES_MOST }
     ensures { Applied world.old (choice_or world.old.scenario world.old.trace (Some (choice.Step site))) (Ok tt) world.new }

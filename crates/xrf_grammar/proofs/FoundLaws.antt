@@ -1,5 +1,5 @@
 -- What is read of a line can be spelled: its names, numbers, values and bytes are within their ranges.
-use Rattle.std.proofs.Common.{◌≡◌, ◌⊎◌, inl, inr, ◌≤◌, ◌<◌, ◌+◌, ◌%◌, ◌==◌, ◌&&◌, ◌||◌, not, if◌then◌else◌, ℕ, Bool, true, false, IsTrue, Option, Some, None, List, [], ◌∷◌, Ok, length, nat_le, refl, sym, ◌∙◌, subst, arith}
+use Rattle.std.proofs.Common.{◌≡◌, ◌⊎◌, inl, inr, ◌≤◌, ◌<◌, ◌+◌, ◌%◌, ◌==◌, ◌&&◌, ◌||◌, not, if◌then◌else◌, ℕ, Bool, true, false, Option, Some, None, List, [], ◌∷◌, Ok, length, nat_le, refl, subst, arith}
 use Rattle.std.specs.Option.{option_map, option_and_then}
 use Rattle.std.specs.Int.{is_in_range}
 use Rattle.std.specs.List.{AllByRecursion, list_all}
@@ -25,14 +25,13 @@ use Rattle.xrf_setup.specs.declared.choice.Choice.{Choice}
 use Rattle.xrf_setup.specs.declared.choice.Choice.TheVariants as choice
 use Rattle.xrf_grammar.specs.declared.line.Line.{Line}
 use Rattle.xrf_grammar.specs.declared.line.Line.TheVariants as line
-use Rattle.xrf_grammar.specs.Grammar.{IsNumber, AreOfForm, IsAmong, Spells}
+use Rattle.xrf_grammar.specs.Grammar.{AreOfForm, IsAmong, Spells}
 use Rattle.xrf_grammar.specs.Hex.{is_hex, is_hex_digit, digit_value, bytes_of_hex, torn_of_hex}
-use Rattle.xrf_setup.specs.Ranges.{IsIn}
 use Rattle.xrf_setup.specs.Items.{IsItemOf, has_users, HasItem, IsClass}
 use Rattle.xrf_grammar.specs.LineText.{IsSetting, IsChoosing, is_timed}
 use Rattle.xrf_setup.specs.Choices.{is_planned, HasLine, IsTorn}
 use Rattle.xrf_grammar.specs.Numbers.{number_of}
-use Rattle.xrf_grammar.specs.Operands.{site_of, class_of, is_multiple_of}
+use Rattle.xrf_grammar.specs.Operands.{site_of, class_of}
 use Rattle.xrf_grammar.specs.Places.{behind, second, third, fourth, fifth, sixth}
 use Rattle.xrf_grammar.specs.Reading.{line_of}
 use Rattle.xrf_grammar.specs.Saying.{site_said, choice_said, counted, once_said, item_said, work_said, plan_said, said}
@@ -40,7 +39,8 @@ use Rattle.xrf_grammar.specs.Table.{parts_of, planned_parts, choice_parts, is_of
 use Rattle.xrf_grammar.proofs.Filling.{most-bytes, least-bytes}
 use Rattle.xrf_grammar.proofs.FormLaws.{line-found}
 use Rattle.xrf_grammar.proofs.NumberLaws.{number-is}
-use Rattle.xrf_grammar.proofs.SayingLaws.{step, tail_of}
+use Rattle.xrf_grammar.proofs.QuantityLaws.{number-in, quantity-found}
+use Rattle.xrf_grammar.proofs.SayingLaws.{number-part, step, tail_of}
 use Rattle.xrf_grammar.proofs.TornLaws.{below-at}
 
 -- what comes out of an option was in it
@@ -69,12 +69,6 @@ class-is word class h = from_then _ (number_of word) class IsClass h (λ n e k. 
     in-range n k =
         let c = cond_some (nat_le 1 n && nat_le n 3) n class k in
         subst IsClass c.1 (leb-true 1 n (and_parts (nat_le 1 n) (nat_le n 3) c.0).0, leb-true n 3 (and_parts (nat_le 1 n) (nat_le n 3) c.0).1)
-
-number-in : (least most : ℕ) (also : ℕ → Bool) (word : List ℕ) (n : ℕ) → IsNumber least most also word → number_of word ≡ Some n → IsIn least most n × IsTrue (also n)
-number-in least most also word n is h =
-    let both : Some is.value ≡ Some n = sym is.spelled ∙ h in
-    let same : is.value ≡ n = cc in
-    subst (λ (m : ℕ). IsIn least most m × IsTrue (also m)) same ((is.low, is.high), is.also_kept)
 
 number-most : (word : List ℕ) (n : ℕ) → number_of word ≡ Some n → n ≤ 65535
 number-most word n h = (number-is word n h).0
@@ -260,12 +254,6 @@ found-work format f ws l two h =
     of One (inr clash) i e = absurd (cc)
     of Two two i e = item-found f ws i e
 
--- a setting that is one number
-found-number : (format : Format) (f : Form) (least most : ℕ) (also : ℕ → Bool) (make : ℕ → Line) (ws : List (List ℕ)) (l : Line) → IsNumber least most also (second ws)
-    → option_map make (number_of (second ws)) ≡ Some l → ((n : ℕ) → IsIn least most n → IsTrue (also n) → IsSetting format (make n)) → Found format l
-found-number format f least most also make ws l is h each =
-    from_map make (number_of (second ws)) l (Found format) h (λ n e. let k = number-in least most also (second ws) n is e in inr (each n k.0 k.1))
-
 -- the forms before the choices, and those of the choices
 abbrev is_setting : Form → Bool
 is_setting (form.Choice f) = false
@@ -306,6 +294,8 @@ form-says : (format : Format) (f : Form) (ws : List (List ℕ)) (l : Line) → i
 form-says format form.Applid ws l s two of h =
     from_then _ (site_of (second ws)) l (Found format) h (λ site e k. from_map (line.Applid site) (name_of (third ws)) l (Found format) k (λ n e1. inr (name-is (third ws) n e1)))
 form-says format (form.Takeovr mode) ws l s two of h = from_some (line.Takeovr mode) l (Found format) h (inr tt)
+form-says format (form.Quantity quantity) ws l s two of h =
+    from_map (line.Quantity quantity) (number_of (second ws)) l (Found format) h (λ n e. inr (quantity-found quantity (second ws) n (number-part quantity ws of) e))
 form-says format (form.Images on) ws l s two of h = from_some (line.Images on) l (Found format) h (inr tt)
 form-says format form.Level ws l s two of h =
     let a = step (parts_of form.Level) ws refl of in
@@ -327,27 +317,6 @@ form-says format (form.Plan f) ws l s two of h = found-plan format f ws l of h
 form-says format form.Choices ws l s two of h = from_some line.Choices l (Found format) h (inr tt)
 form-says format (form.Choice f) ws l s two of h = absurd (cc)
 form-says format form.End ws l s two of h = absurd (cc)
-form-says format form.Adi ws l s two of h =
-    let a = step (parts_of form.Adi) ws refl of in
-    found-number format form.Adi 5 3600 (λ n. true) line.Adi ws l (step (tail_of (parts_of form.Adi)) (behind ws) refl a.1).0 h (λ n k also. k)
-form-says format form.Pdi ws l s two of h =
-    let a = step (parts_of form.Pdi) ws refl of in
-    found-number format form.Pdi 5 3600 (λ n. true) line.Pdi ws l (step (tail_of (parts_of form.Pdi)) (behind ws) refl a.1).0 h (λ n k also. k)
-form-says format form.Ring ws l s two of h =
-    let a = step (parts_of form.Ring) ws refl of in
-    found-number format form.Ring 2 64 (λ n. true) line.Ring ws l (step (tail_of (parts_of form.Ring)) (behind ws) refl a.1).0 h (λ n k also. k)
-form-says format form.File ws l s two of h =
-    let a = step (parts_of form.File) ws refl of in
-    found-number format form.File 1 256 (λ n. true) line.File ws l (step (tail_of (parts_of form.File)) (behind ws) refl a.1).0 h (λ n k also. k)
-form-says format form.Pace ws l s two of h =
-    let a = step (parts_of form.Pace) ws refl of in
-    found-number format form.Pace 10 200 (λ n. true) line.Pace ws l (step (tail_of (parts_of form.Pace)) (behind ws) refl a.1).0 h (λ n k also. k)
-form-says format form.Ticks ws l s two of h =
-    let a = step (parts_of form.Ticks) ws refl of in
-    found-number format form.Ticks 0 200 (λ n. true) line.Ticks ws l (step (tail_of (parts_of form.Ticks)) (behind ws) refl a.1).0 h (λ n k also. k)
-form-says format form.Log ws l s two of h =
-    let a = step (parts_of form.Log) ws refl of in
-    found-number format form.Log 64 1024 (λ n. is_multiple_of n 64) line.Log ws l (step (tail_of (parts_of form.Log)) (behind ws) refl a.1).0 h (λ n k also. (k, also))
 
 -- what is read of a line before the choices can be spelled
 pub setting_found : (format : Format) (ws : List (List ℕ)) (l : Line) → line_of (settings_of format) ws ≡ Ok l → (l ≡ line.Clt) ⊎ IsSetting format l
@@ -392,13 +361,7 @@ choosing-says (form.Choice f) ws l is of h = timed f ws l of h
 choosing-says form.End ws l is of h = from_some line.End l IsChoosing h tt
 choosing-says form.Applid ws l is of h = absurd (cc)
 choosing-says (form.Takeovr mode) ws l is of h = absurd (cc)
-choosing-says form.Adi ws l is of h = absurd (cc)
-choosing-says form.Pdi ws l is of h = absurd (cc)
-choosing-says form.Log ws l is of h = absurd (cc)
-choosing-says form.Ring ws l is of h = absurd (cc)
-choosing-says form.File ws l is of h = absurd (cc)
-choosing-says form.Pace ws l is of h = absurd (cc)
-choosing-says form.Ticks ws l is of h = absurd (cc)
+choosing-says (form.Quantity quantity) ws l is of h = absurd (cc)
 choosing-says (form.Images on) ws l is of h = absurd (cc)
 choosing-says form.Level ws l is of h = absurd (cc)
 choosing-says (form.Xrfsoff force) ws l is of h = absurd (cc)
@@ -457,6 +420,7 @@ says-other form.Record ws l out h = from_then _ (number_of (second ws)) l Other 
 says-other (form.Takeovr mode) ws l out h = from_some (line.Takeovr mode) l Other h refl
 says-other (form.Images on) ws l out h = from_some (line.Images on) l Other h refl
 says-other (form.Xrfsoff force) ws l out h = from_some (line.Xrfsoff force) l Other h refl
+says-other (form.Quantity quantity) ws l out h = from_map (line.Quantity quantity) (number_of (second ws)) l Other h (λ n e. refl)
 says-other (form.Work f) ws l out h = from_then _ (site_of (second ws)) l Other h (λ s e k. from_map (line.Work s) (item_said f ws) l Other k (λ i e1. refl))
 says-other (form.Plan f) ws l out h = from_then _ (number_of (second ws)) l Other h (λ t e k. from_map (line.Plan t) (choice_said f (behind (behind ws))) l Other k (λ c e1. refl))
 says-other form.Choices ws l out h = from_some line.Choices l Other h refl
@@ -465,13 +429,6 @@ says-other (form.Choice f) ws l out h = from_then (counted f ws) (choice_said f 
 says-other form.CltCancel ws l out h = absurd (cc)
 says-other form.CltCommand ws l out h = absurd (cc)
 says-other form.CltWto ws l out h = absurd (cc)
-says-other form.Adi ws l out h = from_map line.Adi (number_of (second ws)) l Other h (λ n e. refl)
-says-other form.Pdi ws l out h = from_map line.Pdi (number_of (second ws)) l Other h (λ n e. refl)
-says-other form.Log ws l out h = from_map line.Log (number_of (second ws)) l Other h (λ n e. refl)
-says-other form.Ring ws l out h = from_map line.Ring (number_of (second ws)) l Other h (λ n e. refl)
-says-other form.File ws l out h = from_map line.File (number_of (second ws)) l Other h (λ n e. refl)
-says-other form.Pace ws l out h = from_map line.Pace (number_of (second ws)) l Other h (λ n e. refl)
-says-other form.Ticks ws l out h = from_map line.Ticks (number_of (second ws)) l Other h (λ n e. refl)
 
 -- a line of the command list is of one of its forms
 pub clt_found : (format : Format) (ws : List (List ℕ)) → line_of (settings_of format) ws ≡ Ok line.Clt

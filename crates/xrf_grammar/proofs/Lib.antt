@@ -1,4 +1,5 @@
 pub mod NumberLaws
+pub mod QuantityLaws
 pub mod Filling
 pub mod FormLaws
 pub mod SayingLaws

@@ -15,6 +15,7 @@ use Rattle.xrf_base.specs.declared.site.Site.TheVariants.{A, B}
 use Rattle.xrf_text.specs.Text.{IsWord}
 use Rattle.xrf_grammar.specs.declared.keyword.Keyword.{Keyword as Word}
 use Rattle.xrf_grammar.specs.declared.keyword.Keyword.TheVariants as key
+use Rattle.xrf_grammar.specs.declared.quantity.Quantity.TheVariants.{Adi}
 use Rattle.xrf_grammar.specs.declared.form.Part.{Part}
 use Rattle.xrf_grammar.specs.declared.form.Part.TheVariants.{Keyword, Refused, Site, Number, Multiple, Name, Value, Hex, Words}
 use Rattle.xrf_grammar.specs.Fitting.{takes_all}
@@ -77,6 +78,8 @@ hex-shown b h = grind (arith, nat_tests)
 -- a keyword is 1 to 12 capital letters
 keyword-is : (keyword : Word) → is_sized is_capital 12 (keyword_text keyword) ≡ true
 keyword-is key.Applid = refl
+keyword-is (key.Quantity Adi) = refl
+keyword-is (key.Quantity _) = refl
 keyword-is _ = refl
 
 -- the word of a site is one byte from `!` to `~`

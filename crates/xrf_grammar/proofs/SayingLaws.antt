@@ -13,7 +13,7 @@ use Rattle.xrf_grammar.specs.declared.reason.Reason.TheVariants.{BadOption}
 use Rattle.xrf_grammar.specs.declared.keyword.Keyword.{Keyword as Word}
 use Rattle.xrf_grammar.specs.declared.keyword.Keyword.TheVariants as key
 use Rattle.xrf_grammar.specs.declared.form.Part.{Part}
-use Rattle.xrf_grammar.specs.declared.form.Part.TheVariants.{Keyword, Site, Number, Multiple, Hex}
+use Rattle.xrf_grammar.specs.declared.form.Part.TheVariants.{Keyword, Site, Number, Hex}
 use Rattle.xrf_grammar.specs.declared.form.ItemForm.{ItemForm}
 use Rattle.xrf_grammar.specs.declared.form.ItemForm.TheVariants as work
 use Rattle.xrf_grammar.specs.declared.form.ChoiceForm.{ChoiceForm}
@@ -21,14 +21,17 @@ use Rattle.xrf_grammar.specs.declared.form.ChoiceForm.TheVariants as by
 use Rattle.xrf_grammar.specs.declared.form.Form.{Form}
 use Rattle.xrf_grammar.specs.declared.form.Form.TheVariants as form
 use Rattle.xrf_setup.specs.declared.choice.Choice.{Choice}
+use Rattle.xrf_grammar.specs.declared.quantity.Quantity.{Quantity}
 use Rattle.xrf_grammar.specs.Fitting.{takes_all}
 use Rattle.xrf_grammar.specs.Grammar.{IsNumber, IsOfPart, Unless, AreOfForm}
 use Rattle.xrf_grammar.specs.Hex.{is_hex, torn_of_hex}
 use Rattle.xrf_grammar.specs.Numbers.{number_of}
 use Rattle.xrf_grammar.specs.Operands.{site_of, class_of}
 use Rattle.xrf_grammar.specs.Places.{first, behind, second, third, fourth, fifth, sixth}
+use Rattle.xrf_grammar.specs.Quantities.{range_of}
 use Rattle.xrf_grammar.specs.Saying.{torn_said, choice_said, counted, once_said, item_said, work_said, plan_said, said}
 use Rattle.xrf_grammar.specs.Table.{parts_of, choice_parts, planned_parts, work_parts, behind_plan}
+use Rattle.xrf_grammar.proofs.QuantityLaws.{is-quantity, quantity-read}
 
 -- what is said of the first word, the parts behind the first, and whether the first takes all
 abbrev pub IsOfFirst : List Part → List ℕ → Type 0
@@ -283,6 +286,10 @@ work-some work.ShutdownTakeover ws of =
     let b = step (tail_of (work_parts work.ShutdownTakeover)) (behind ws) refl a.1 in
     then_some _ (site_of (second ws)) b.0 (λ s. refl)
 
+-- the second word of a setting that is one number is of the part of its number
+pub number-part : (quantity : Quantity) (ws : List (List ℕ)) → AreOfForm (parts_of (form.Quantity quantity)) ws → IsOfPart (range_of quantity) (second ws)
+number-part quantity ws of = (step (range_of quantity ∷ []) (behind ws) (is-quantity quantity).one_word (step (parts_of (form.Quantity quantity)) ws refl of).1).0
+
 -- words of a form say something
 pub said-some : (f : Form) (ws : List (List ℕ)) → AreOfForm (parts_of f) ws → is_some (said f ws) ≡ true
 said-some form.Applid ws of =
@@ -311,17 +318,4 @@ said-some form.End ws of = refl
 said-some (form.Work f) ws of = work-some f ws of
 said-some (form.Plan f) ws of = plan-some f ws of
 said-some (form.Choice f) ws of = once-some f ws of
-said-some form.Adi ws of =
-    let a = step (parts_of form.Adi) ws refl of in map_some _ (number_of (second ws)) (number-some 5 3600 _ (second ws) (step (Number 5 3600 ∷ []) (behind ws) refl a.1).0)
-said-some form.Pdi ws of =
-    let a = step (parts_of form.Pdi) ws refl of in map_some _ (number_of (second ws)) (number-some 5 3600 _ (second ws) (step (Number 5 3600 ∷ []) (behind ws) refl a.1).0)
-said-some form.Ring ws of =
-    let a = step (parts_of form.Ring) ws refl of in map_some _ (number_of (second ws)) (number-some 2 64 _ (second ws) (step (Number 2 64 ∷ []) (behind ws) refl a.1).0)
-said-some form.File ws of =
-    let a = step (parts_of form.File) ws refl of in map_some _ (number_of (second ws)) (number-some 1 256 _ (second ws) (step (Number 1 256 ∷ []) (behind ws) refl a.1).0)
-said-some form.Pace ws of =
-    let a = step (parts_of form.Pace) ws refl of in map_some _ (number_of (second ws)) (number-some 10 200 _ (second ws) (step (Number 10 200 ∷ []) (behind ws) refl a.1).0)
-said-some form.Ticks ws of =
-    let a = step (parts_of form.Ticks) ws refl of in map_some _ (number_of (second ws)) (number-some 0 200 _ (second ws) (step (Number 0 200 ∷ []) (behind ws) refl a.1).0)
-said-some form.Log ws of =
-    let a = step (parts_of form.Log) ws refl of in map_some _ (number_of (second ws)) (number-some 64 1024 _ (second ws) (step (Multiple 64 1024 64 ∷ []) (behind ws) refl a.1).0)
+said-some (form.Quantity quantity) ws of = map_some _ (number_of (second ws)) (quantity-read quantity (second ws) (number-part quantity ws of))

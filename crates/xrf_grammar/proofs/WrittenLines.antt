@@ -1,5 +1,5 @@
 -- The words of what is written of a line, and the form of which they are.
-use Rattle.std.proofs.Common.{◌≡◌, ◌⊎◌, inl, inr, if◌then◌else◌, ◌≤◌, ℕ, Bool, true, false, List, [], ◌∷◌, ◌++◌, append_assoc, append-nil, Some, codes, refl, sym, ◌∙◌, ap, subst, arith}
+use Rattle.std.proofs.Common.{◌≡◌, ◌+◌, ◌⊎◌, inl, inr, if◌then◌else◌, ◌≤◌, ℕ, Bool, true, false, List, [], ◌∷◌, ◌++◌, append_assoc, append-nil, Some, codes, refl, sym, ◌∙◌, ap, subst, arith}
 use Rattle.std.specs.Fmt.{decimal}
 use Rattle.std.specs.List.{join_with_byte}
 use Rattle.std.proofs.lemmas.Bool.{le-leb}
@@ -20,21 +20,24 @@ use Rattle.xrf_grammar.specs.declared.form.ItemForm.{ItemForm}
 use Rattle.xrf_grammar.specs.declared.form.ItemForm.TheVariants as work
 use Rattle.xrf_grammar.specs.declared.form.Part.{Part}
 use Rattle.xrf_grammar.specs.declared.form.Part.TheVariants.{Keyword as Key, Refused}
+use Rattle.xrf_grammar.specs.declared.quantity.Quantity.{Quantity as Measured}
 use Rattle.xrf_grammar.specs.declared.line.Line.{Line}
-use Rattle.xrf_grammar.specs.declared.line.Line.TheVariants.{Applid, Takeovr, Adi, Pdi, Log, Ring, File, Pace, Ticks, Images, Level, Xrfsoff, Record, Clt, Work, Plan, Choices, Once, Times, End}
+use Rattle.xrf_grammar.specs.declared.line.Line.TheVariants.{Applid, Takeovr, Quantity, Images, Level, Xrfsoff, Record, Clt, Work, Plan, Choices, Once, Times, End}
 use Rattle.xrf_grammar.specs.declared.reason.Reason.TheVariants.{BadPlan}
-use Rattle.xrf_grammar.specs.Grammar.{AreOfForm, IsAmong}
+use Rattle.xrf_grammar.specs.Grammar.{AreOfForm, IsAmong, IsOfPart, Unless}
 use Rattle.xrf_setup.specs.Ranges.{IsIn}
 use Rattle.xrf_grammar.specs.LineText.{IsSetting, IsChoosing, is_timed, line_text}
 use Rattle.xrf_setup.specs.Items.{IsItemOf, has_users, HasItem, IsClass}
 use Rattle.xrf_setup.specs.Choices.{is_planned, HasLine}
 use Rattle.xrf_grammar.specs.Operands.{class_of}
+use Rattle.xrf_grammar.specs.Quantities.{quantity_text, place_of, range_of}
 use Rattle.xrf_grammar.specs.Saying.{item_said, said}
 use Rattle.xrf_grammar.specs.Spelling.{site_word, choice_text, item_text}
 use Rattle.xrf_grammar.specs.Table.{behind_plan, choice_parts, choices_table, is_of_two, parts_of, settings_of, settings_of_two, work_parts}
 use Rattle.xrf_grammar.proofs.Listed.{at_place, listed, in_both, in_two, choice-listed, plan-listed, choice-short, plan-short}
 use Rattle.xrf_grammar.proofs.NumberLaws.{number-of-decimal}
 use Rattle.xrf_grammar.proofs.PlainLaws.{is_short}
+use Rattle.xrf_grammar.proofs.QuantityLaws.{is-quantity, quantity-most, quantity-word}
 use Rattle.xrf_grammar.proofs.WrittenChoices.{choice-written, is_taken, number-is, site-again, site-is}
 
 -- the words of what is written of a line, and the form of which they are
@@ -268,6 +271,10 @@ plan-written format tick c range planned h =
       short = plan-short w.form;
     }
 
+-- a word of the part of a number is of all parts that are left
+number-fit : (quantity : Measured) (word : List ℕ) → IsOfPart (range_of quantity) word → AreOfForm (range_of quantity ∷ []) (word ∷ [])
+number-fit quantity word is = subst (λ (t : Bool). Unless t (IsOfPart (range_of quantity) word × Unit {0})) (sym (is-quantity quantity).one_word) (is, tt)
+
 -- each line before the choices that a format has is written by words of a form
 pub setting-written : (format : Format) (line : Line) → IsSetting format line → Written (settings_of format) line
 setting-written format (Applid site name) h = record {
@@ -306,68 +313,14 @@ setting-written format (Takeovr Command) h = record {
   says = refl;
   short = refl;
 }
-setting-written format (Adi n) h = record {
-  form = table.Adi;
-  ws = codes "ADI" ∷ decimal n ∷ [];
-  joined = refl;
-  among = in_both format 4 table.Adi refl refl;
-  fit = (refl, (number-is 5 3600 n h (omega arith), tt));
-  says = rw (number-of-decimal n (in-range 5 3600 n h (omega arith))) refl;
-  short = refl;
-}
-setting-written format (Pdi n) h = record {
-  form = table.Pdi;
-  ws = codes "PDI" ∷ decimal n ∷ [];
-  joined = refl;
-  among = in_both format 5 table.Pdi refl refl;
-  fit = (refl, (number-is 5 3600 n h (omega arith), tt));
-  says = rw (number-of-decimal n (in-range 5 3600 n h (omega arith))) refl;
-  short = refl;
-}
-setting-written format (Log n) h = record {
-  form = table.Log;
-  ws = codes "LOG" ∷ decimal n ∷ [];
-  joined = refl;
-  among = in_both format 6 table.Log refl refl;
-  fit = (refl, (record { value = n; spelled = number-of-decimal n (in-range 64 1024 n h.0 (omega arith)); low = h.0.0; high = h.0.1; also_kept = h.1 }, tt));
-  says = rw (number-of-decimal n (in-range 64 1024 n h.0 (omega arith))) refl;
-  short = refl;
-}
-setting-written format (Ring n) h = record {
-  form = table.Ring;
-  ws = codes "RING" ∷ decimal n ∷ [];
-  joined = refl;
-  among = in_both format 7 table.Ring refl refl;
-  fit = (refl, (number-is 2 64 n h (omega arith), tt));
-  says = rw (number-of-decimal n (in-range 2 64 n h (omega arith))) refl;
-  short = refl;
-}
-setting-written format (File n) h = record {
-  form = table.File;
-  ws = codes "FILE" ∷ decimal n ∷ [];
-  joined = refl;
-  among = in_both format 8 table.File refl refl;
-  fit = (refl, (number-is 1 256 n h (omega arith), tt));
-  says = rw (number-of-decimal n (in-range 1 256 n h (omega arith))) refl;
-  short = refl;
-}
-setting-written format (Pace n) h = record {
-  form = table.Pace;
-  ws = codes "PACE" ∷ decimal n ∷ [];
-  joined = refl;
-  among = in_both format 9 table.Pace refl refl;
-  fit = (refl, (number-is 10 200 n h (omega arith), tt));
-  says = rw (number-of-decimal n (in-range 10 200 n h (omega arith))) refl;
-  short = refl;
-}
-setting-written format (Ticks n) h = record {
-  form = table.Ticks;
-  ws = codes "TICKS" ∷ decimal n ∷ [];
-  joined = refl;
-  among = in_both format 10 table.Ticks refl refl;
-  fit = (refl, (number-is 0 200 n h (omega arith), tt));
-  says = rw (number-of-decimal n (in-range 0 200 n h (omega arith))) refl;
-  short = refl;
+setting-written format (Quantity quantity n) h = record {
+  form = table.Quantity quantity;
+  ws = quantity_text quantity ∷ decimal n ∷ [];
+  joined = two-parts (quantity_text quantity) (decimal n);
+  among = in_both format (4 + place_of quantity) (table.Quantity quantity) (is-quantity quantity).listed refl;
+  fit = (refl, number-fit quantity (decimal n) (quantity-word quantity n h));
+  says = rw (number-of-decimal n (quantity-most quantity n h)) refl;
+  short = (is-quantity quantity).short;
 }
 setting-written format (Images true) h = record {
   form = table.Images true;

@@ -1,7 +1,8 @@
 -- How each keyword is spelled.
 use Rattle.std.specs.Prelude.{ℕ, List, codes}
+use Rattle.xrf_grammar.specs.Quantities.{quantity_text}
 use Rattle.xrf_grammar.specs.declared.keyword.Keyword.{Keyword}
-use Rattle.xrf_grammar.specs.declared.keyword.Keyword.TheVariants.{Applid, Takeovr, Auto, Manual, Command, Adi, Pdi, Log, Ring, File, Pace, Ticks, Images, On, Off, Level, Xrfsoff, Force, Noforce, Record, Clt, Cancel, Wto, Work, Begin, Put, Get, Commit, Roll, Logon, Logoff, Signon, Signoff, Cemt, Shutdown, Takeover, Plan, Choices, End, Tick, Step, Lose, Stop, NoneWord, All, Torn, Fail, Start, Active, Standby, Abend, Confirm, Reply, Go, Ignore, Cebt, Perform, Inquire, Set, Surveillance, Exit, Keep, Drop}
+use Rattle.xrf_grammar.specs.declared.keyword.Keyword.TheVariants.{Applid, Takeovr, Auto, Manual, Command, Quantity, Images, On, Off, Level, Xrfsoff, Force, Noforce, Record, Clt, Cancel, Wto, Work, Begin, Put, Get, Commit, Roll, Logon, Logoff, Signon, Signoff, Cemt, Shutdown, Takeover, Plan, Choices, End, Tick, Step, Lose, Stop, NoneWord, All, Torn, Fail, Start, Active, Standby, Abend, Confirm, Reply, Go, Ignore, Cebt, Perform, Inquire, Set, Surveillance, Exit, Keep, Drop}
 
 abbrev pub keyword_text : Keyword → List ℕ
 keyword_text Applid = codes "APPLID"
@@ -9,13 +10,7 @@ keyword_text Takeovr = codes "TAKEOVR"
 keyword_text Auto = codes "AUTO"
 keyword_text Manual = codes "MANUAL"
 keyword_text Command = codes "COMMAND"
-keyword_text Adi = codes "ADI"
-keyword_text Pdi = codes "PDI"
-keyword_text Log = codes "LOG"
-keyword_text Ring = codes "RING"
-keyword_text File = codes "FILE"
-keyword_text Pace = codes "PACE"
-keyword_text Ticks = codes "TICKS"
+keyword_text (Quantity quantity) = quantity_text quantity
 keyword_text Images = codes "IMAGES"
 keyword_text On = codes "ON"
 keyword_text Off = codes "OFF"

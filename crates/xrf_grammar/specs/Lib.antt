@@ -6,6 +6,7 @@ pub mod Numbers
 pub mod Hex
 pub mod Filling
 pub mod Operands
+pub mod Quantities
 pub mod Fitting
 pub mod Faults
 pub mod Saying

@@ -1,5 +1,5 @@
 -- How a line is written, and which lines a text can spell.
-use Rattle.std.specs.Prelude.{◌≡◌, ◌≢◌, ◌⊎◌, ℕ, Bool, true, false, List, [], ◌∷◌, ◌++◌, codes, IsTrue}
+use Rattle.std.specs.Prelude.{◌≡◌, ◌≢◌, ◌⊎◌, ℕ, Bool, true, false, List, [], ◌∷◌, ◌++◌, codes}
 use Rattle.std.specs.Fmt.{decimal}
 use Rattle.xrf_base.specs.Names.{IsName}
 use Rattle.xrf_base.specs.Values.{IsValue}
@@ -11,13 +11,13 @@ use Rattle.xrf_setup.specs.declared.format.Format.TheVariants.{One, Two}
 use Rattle.xrf_grammar.specs.declared.keyword.Keyword.{Keyword}
 use Rattle.xrf_grammar.specs.declared.keyword.Keyword.TheVariants as key
 use Rattle.xrf_grammar.specs.declared.line.Line.{Line}
-use Rattle.xrf_grammar.specs.declared.line.Line.TheVariants.{Applid, Takeovr, Adi, Pdi, Log, Ring, File, Pace, Ticks, Images, Level, Xrfsoff, Record, Clt, Work, Plan, Choices, Once, Times, End}
-use Rattle.xrf_grammar.specs.Operands.{is_multiple_of}
+use Rattle.xrf_grammar.specs.declared.line.Line.TheVariants.{Applid, Takeovr, Quantity, Images, Level, Xrfsoff, Record, Clt, Work, Plan, Choices, Once, Times, End}
+use Rattle.xrf_grammar.specs.Quantities.{quantity_text, range_of, IsOfRange}
 use Rattle.xrf_grammar.specs.Spelling.{site_text, choice_text, work_text}
 use Rattle.xrf_setup.specs.Choices.{HasLine, is_planned}
 use Rattle.xrf_setup.specs.Items.{IsItemOf}
 use Rattle.xrf_setup.specs.Ranges.{IsIn}
-use Rattle.xrf_setup.specs.declared.ranges.TheConstants.{INTERVAL_LEAST, INTERVAL_MOST, LOG_LEAST, LOG_MOST, LOG_UNIT, RING_LEAST, RING_MOST, FILE_LEAST, FILE_MOST, PACE_LEAST, PACE_MOST, TICKS_MOST}
+use Rattle.xrf_setup.specs.declared.ranges.TheConstants.{FILE_LEAST, FILE_MOST, TICKS_MOST}
 
 abbrev pub header_text : Format → List ℕ
 header_text One = codes "XRF 1"
@@ -27,13 +27,7 @@ header_text Two = codes "XRF 2"
 abbrev pub line_text : Line → List ℕ
 line_text (Applid site name) = site_text (codes "APPLID") site (codes " " ++ name)
 line_text (Takeovr mode) = codes "TAKEOVR " ++ mode_word mode
-line_text (Adi n) = codes "ADI " ++ decimal n
-line_text (Pdi n) = codes "PDI " ++ decimal n
-line_text (Log n) = codes "LOG " ++ decimal n
-line_text (Ring n) = codes "RING " ++ decimal n
-line_text (File n) = codes "FILE " ++ decimal n
-line_text (Pace n) = codes "PACE " ++ decimal n
-line_text (Ticks n) = codes "TICKS " ++ decimal n
+line_text (Quantity quantity n) = quantity_text quantity ++ codes " " ++ decimal n
 line_text (Images true) = codes "IMAGES ON"
 line_text (Images false) = codes "IMAGES OFF"
 line_text (Level site n) = site_text (codes "LEVEL") site (codes " " ++ decimal n)
@@ -72,13 +66,7 @@ IsOfTwo format = format ≡ Two
 abbrev pub IsSetting : Format → Line → Type 0
 IsSetting format (Applid site name) = IsName name
 IsSetting format (Takeovr mode) = Unit {0}
-IsSetting format (Adi n) = IsIn INTERVAL_LEAST INTERVAL_MOST n
-IsSetting format (Pdi n) = IsIn INTERVAL_LEAST INTERVAL_MOST n
-IsSetting format (Log n) = IsIn LOG_LEAST LOG_MOST n × IsTrue (is_multiple_of n LOG_UNIT)
-IsSetting format (Ring n) = IsIn RING_LEAST RING_MOST n
-IsSetting format (File n) = IsIn FILE_LEAST FILE_MOST n
-IsSetting format (Pace n) = IsIn PACE_LEAST PACE_MOST n
-IsSetting format (Ticks n) = IsIn 0 TICKS_MOST n
+IsSetting format (Quantity quantity n) = IsOfRange (range_of quantity) n
 IsSetting format (Images on) = Unit {0}
 IsSetting format (Level site n) = IsOfTwo format × IsIn 1 2 n
 IsSetting format (Xrfsoff force) = IsOfTwo format

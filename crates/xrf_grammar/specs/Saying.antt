@@ -93,20 +93,10 @@ level_said ws = option_and_then (λ s. option_map (line.Level s) (number_of (thi
 abbrev pub record_said : List (List ℕ) → Option Line
 record_said ws = option_and_then (λ number. option_map (line.Record number) (value_of (third ws))) (number_of (second ws))
 
--- a setting that is one number
-abbrev pub number_said : (ℕ → Line) → List (List ℕ) → Option Line
-number_said setting ws = option_map setting (number_of (second ws))
-
 abbrev pub said : Form → List (List ℕ) → Option Line
 said form.Applid ws = applid_said ws
 said (form.Takeovr mode) ws = Some (line.Takeovr mode)
-said form.Adi ws = number_said line.Adi ws
-said form.Pdi ws = number_said line.Pdi ws
-said form.Log ws = number_said line.Log ws
-said form.Ring ws = number_said line.Ring ws
-said form.File ws = number_said line.File ws
-said form.Pace ws = number_said line.Pace ws
-said form.Ticks ws = number_said line.Ticks ws
+said (form.Quantity quantity) ws = option_map (line.Quantity quantity) (number_of (second ws))
 said (form.Images on) ws = Some (line.Images on)
 said form.Level ws = level_said ws
 said (form.Xrfsoff force) ws = Some (line.Xrfsoff force)

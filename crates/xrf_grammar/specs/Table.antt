@@ -11,16 +11,17 @@ use Rattle.xrf_grammar.specs.declared.reason.Reason.TheVariants.{UnknownWord, Ba
 use Rattle.xrf_grammar.specs.declared.keyword.Keyword.{Keyword}
 use Rattle.xrf_grammar.specs.declared.keyword.Keyword.TheVariants as key
 use Rattle.xrf_grammar.specs.declared.form.Part.{Part}
-use Rattle.xrf_grammar.specs.declared.form.Part.TheVariants.{Keyword as Key, Refused, Site, Number, Multiple, Name, Value, Hex, Words}
+use Rattle.xrf_grammar.specs.declared.form.Part.TheVariants.{Keyword as Key, Refused, Site, Number, Name, Value, Hex, Words}
 use Rattle.xrf_grammar.specs.declared.form.ItemForm.{ItemForm}
 use Rattle.xrf_grammar.specs.declared.form.ItemForm.TheVariants as item
 use Rattle.xrf_grammar.specs.declared.form.ChoiceForm.{ChoiceForm}
 use Rattle.xrf_grammar.specs.declared.form.ChoiceForm.TheVariants as choice
 use Rattle.xrf_grammar.specs.declared.form.Form.{Form}
 use Rattle.xrf_grammar.specs.declared.form.Form.TheVariants as form
+use Rattle.xrf_grammar.specs.Quantities.{quantities, range_of}
 use Rattle.xrf_setup.specs.declared.format.Format.{Format}
 use Rattle.xrf_setup.specs.declared.format.Format.TheVariants.{One, Two}
-use Rattle.xrf_setup.specs.declared.ranges.TheConstants.{INTERVAL_LEAST, INTERVAL_MOST, LOG_LEAST, LOG_MOST, LOG_UNIT, RING_LEAST, RING_MOST, FILE_LEAST, FILE_MOST, PACE_LEAST, PACE_MOST, TICKS_MOST, NUMBER_MOST, CLASS_LEAST, CLASS_MOST}
+use Rattle.xrf_setup.specs.declared.ranges.TheConstants.{FILE_LEAST, FILE_MOST, TICKS_MOST, NUMBER_MOST, CLASS_LEAST, CLASS_MOST}
 
 abbrev pub choice_parts : ChoiceForm → List Part
 choice_parts choice.Tick = Key key.Tick UnknownWord ∷ []
@@ -88,13 +89,7 @@ parts_of form.Applid = Key key.Applid UnknownWord ∷ Site ∷ Name ∷ []
 parts_of (form.Takeovr Auto) = Key key.Takeovr UnknownWord ∷ Key key.Auto BadOption ∷ []
 parts_of (form.Takeovr Manual) = Key key.Takeovr UnknownWord ∷ Key key.Manual BadOption ∷ []
 parts_of (form.Takeovr Command) = Key key.Takeovr UnknownWord ∷ Key key.Command BadOption ∷ []
-parts_of form.Adi = Key key.Adi UnknownWord ∷ Number INTERVAL_LEAST INTERVAL_MOST ∷ []
-parts_of form.Pdi = Key key.Pdi UnknownWord ∷ Number INTERVAL_LEAST INTERVAL_MOST ∷ []
-parts_of form.Log = Key key.Log UnknownWord ∷ Multiple LOG_LEAST LOG_MOST LOG_UNIT ∷ []
-parts_of form.Ring = Key key.Ring UnknownWord ∷ Number RING_LEAST RING_MOST ∷ []
-parts_of form.File = Key key.File UnknownWord ∷ Number FILE_LEAST FILE_MOST ∷ []
-parts_of form.Pace = Key key.Pace UnknownWord ∷ Number PACE_LEAST PACE_MOST ∷ []
-parts_of form.Ticks = Key key.Ticks UnknownWord ∷ Number 0 TICKS_MOST ∷ []
+parts_of (form.Quantity quantity) = Key (key.Quantity quantity) UnknownWord ∷ range_of quantity ∷ []
 parts_of (form.Images true) = Key key.Images UnknownWord ∷ Key key.On BadOption ∷ []
 parts_of (form.Images false) = Key key.Images UnknownWord ∷ Key key.Off BadOption ∷ []
 parts_of form.Level = Key key.Level UnknownWord ∷ Site ∷ Number 1 2 ∷ []
@@ -116,7 +111,8 @@ choice_forms = choice.Tick ∷ choice.TickTimes ∷ choice.Step ∷ choice.StepT
 
 -- the forms before the choices under XRF 2
 abbrev pub settings_of_two : List Form
-settings_of_two = form.Applid ∷ form.Takeovr Auto ∷ form.Takeovr Manual ∷ form.Takeovr Command ∷ form.Adi ∷ form.Pdi ∷ form.Log ∷ form.Ring ∷ form.File ∷ form.Pace ∷ form.Ticks ∷ form.Images true ∷ form.Images false ∷ form.Level ∷ form.Xrfsoff true ∷ form.Xrfsoff false ∷ form.Record ∷ form.CltCancel ∷ form.CltCommand ∷ form.CltWto ∷ form.Work item.Begin ∷ form.Work item.Put ∷ form.Work item.Get ∷ form.Work item.Commit ∷ form.Work item.Roll ∷ form.Work item.Logon ∷ form.Work item.Logoff ∷ form.Work item.Signon ∷ form.Work item.Signoff ∷ form.Work item.Shutdown ∷ form.Work item.ShutdownTakeover ∷ []
+settings_of_two = form.Applid ∷ form.Takeovr Auto ∷ form.Takeovr Manual ∷ form.Takeovr Command ∷ []
+    ++ map form.Quantity quantities ++ form.Images true ∷ form.Images false ∷ form.Level ∷ form.Xrfsoff true ∷ form.Xrfsoff false ∷ form.Record ∷ form.CltCancel ∷ form.CltCommand ∷ form.CltWto ∷ form.Work item.Begin ∷ form.Work item.Put ∷ form.Work item.Get ∷ form.Work item.Commit ∷ form.Work item.Roll ∷ form.Work item.Logon ∷ form.Work item.Logoff ∷ form.Work item.Signon ∷ form.Work item.Signoff ∷ form.Work item.Shutdown ∷ form.Work item.ShutdownTakeover ∷ []
     ++ map form.Plan choice_forms ++ form.Choices ∷ []
 
 -- XRF 1 has no levels and no users

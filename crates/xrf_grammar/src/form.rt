@@ -1,6 +1,7 @@
 //! The forms of the lines of a scenario, and the parts of which a form is made.
 
 use crate::keyword::Keyword;
+use crate::quantity::Quantity;
 use crate::reason::Reason;
 use xrf_base::Takeovr;
 use xrf_cebt::Cebt;
@@ -73,13 +74,7 @@ pub enum ChoiceForm {
 pub enum Form {
     Applid,
     Takeovr(Takeovr),
-    Adi,
-    Pdi,
-    Log,
-    Ring,
-    File,
-    Pace,
-    Ticks,
+    Quantity(Quantity),
     /// True is ON.
     Images(bool),
     Level,

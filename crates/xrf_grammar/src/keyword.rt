@@ -3,6 +3,8 @@
 ghost use Rattle.std.specs.Prelude.{◌≡◌};
 ghost use Rattle.xrf_grammar.specs.Keywords.{keyword_text};
 
+use crate::quantity::Quantity;
+
 /// A word in capitals of a form.
 #[derive(Clone, Copy, Debug, PartialEq, Eq)]
 pub enum Keyword {
@@ -11,13 +13,7 @@ pub enum Keyword {
     Auto,
     Manual,
     Command,
-    Adi,
-    Pdi,
-    Log,
-    Ring,
-    File,
-    Pace,
-    Ticks,
+    Quantity(Quantity),
     Images,
     On,
     Off,
@@ -72,10 +68,11 @@ pub enum Keyword {
     Drop,
 }
 
-/// The text of a keyword, by the spelling of each.
+/// The text of a keyword, by the spelling of each that is no quantity.
 macro_rules! spelled_by {
     ($keyword:expr; $($name:ident $text:literal,)*) => {
         match $keyword {
+            Keyword::Quantity(quantity) => quantity.text(),
             $(Keyword::$name => $text,)*
         }
     };
@@ -88,8 +85,7 @@ impl Keyword {
     {
         spelled_by! { self;
             Applid b"APPLID", Takeovr b"TAKEOVR", Auto b"AUTO", Manual b"MANUAL",
-            Command b"COMMAND", Adi b"ADI", Pdi b"PDI", Log b"LOG", Ring b"RING", File b"FILE",
-            Pace b"PACE", Ticks b"TICKS", Images b"IMAGES", On b"ON", Off b"OFF", Level b"LEVEL",
+            Command b"COMMAND", Images b"IMAGES", On b"ON", Off b"OFF", Level b"LEVEL",
             Xrfsoff b"XRFSOFF", Force b"FORCE", Noforce b"NOFORCE", Record b"RECORD", Clt b"CLT",
             Cancel b"CANCEL", Wto b"WTO", Work b"WORK", Begin b"BEGIN", Put b"PUT", Get b"GET",
             Commit b"COMMIT", Roll b"ROLL", Logon b"LOGON", Logoff b"LOGOFF", Signon b"SIGNON",

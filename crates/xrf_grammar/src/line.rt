@@ -1,5 +1,6 @@
 //! What one line says.
 
+use crate::quantity::Quantity;
 use xrf_base::{Item, Name8, Site, Takeovr, Value};
 use xrf_setup::Choice;
 
@@ -8,13 +9,7 @@ use xrf_setup::Choice;
 pub enum Line {
     Applid(Site, Name8),
     Takeovr(Takeovr),
-    Adi(u16),
-    Pdi(u16),
-    Log(u16),
-    Ring(u16),
-    File(u16),
-    Pace(u16),
-    Ticks(u16),
+    Quantity(Quantity, u16),
     Images(bool),
     Level(Site, u16),
     /// True is FORCE.

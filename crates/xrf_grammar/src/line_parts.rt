@@ -9,10 +9,7 @@ use crate::keyword::Keyword;
 use crate::reason::Reason;
 use crate::work_parts::work_parts;
 use xrf_base::Takeovr;
-use xrf_setup::ranges::{
-    FILE_LEAST, FILE_MOST, INTERVAL_LEAST, INTERVAL_MOST, LOG_LEAST, LOG_MOST, LOG_UNIT,
-    PACE_LEAST, PACE_MOST, RING_LEAST, RING_MOST, TICKS_MOST,
-};
+use xrf_setup::ranges::{FILE_LEAST, FILE_MOST};
 
 /// The parts of a line, by its keyword and the parts behind it.
 macro_rules! line_of {
@@ -36,13 +33,7 @@ impl Form {
             Form::Takeovr(Takeovr::Auto) => line_of!(Takeovr, option!(Auto)),
             Form::Takeovr(Takeovr::Manual) => line_of!(Takeovr, option!(Manual)),
             Form::Takeovr(Takeovr::Command) => line_of!(Takeovr, option!(Command)),
-            Form::Adi => line_of!(Adi, Part::Number(INTERVAL_LEAST, INTERVAL_MOST)),
-            Form::Pdi => line_of!(Pdi, Part::Number(INTERVAL_LEAST, INTERVAL_MOST)),
-            Form::Log => line_of!(Log, Part::Multiple(LOG_LEAST, LOG_MOST, LOG_UNIT)),
-            Form::Ring => line_of!(Ring, Part::Number(RING_LEAST, RING_MOST)),
-            Form::File => line_of!(File, Part::Number(FILE_LEAST, FILE_MOST)),
-            Form::Pace => line_of!(Pace, Part::Number(PACE_LEAST, PACE_MOST)),
-            Form::Ticks => line_of!(Ticks, Part::Number(0, TICKS_MOST)),
+            Form::Quantity(quantity) => quantity.parts(),
             Form::Images(true) => line_of!(Images, option!(On)),
             Form::Images(false) => line_of!(Images, option!(Off)),
             Form::Level => line_of!(Level, Part::Site, Part::Number(1, 2)),

@@ -7,6 +7,7 @@ ghost use Rattle.xrf_base.specs.Names.{IsName};
 ghost use Rattle.xrf_text.specs.Text.{words};
 ghost use Rattle.xrf_grammar.specs.LineText.{header_text, line_text, IsChoosing, IsCommand, IsSetting};
 ghost use Rattle.xrf_grammar.specs.Plain.{IsPlain};
+ghost use Rattle.xrf_grammar.specs.Quantities.{quantity_text};
 ghost use Rattle.xrf_grammar.specs.Reading.{header_of, line_of};
 ghost use Rattle.xrf_grammar.specs.Spelling.{choice_text, site_text, work_text};
 ghost use Rattle.xrf_setup.specs.Choices.{HasLine};
@@ -14,6 +15,7 @@ ghost use Rattle.xrf_grammar.specs.Table.{choices_table, settings_of};
 ghost use Rattle.xrf_grammar.specs.declared.line.Line.TheVariants.{Clt};
 
 use crate::line::Line;
+use crate::quantity::Quantity;
 use crate::writing::Piece::{Number, Text};
 use crate::writing::{put, put_choice, put_item, put_named, put_of_site, put_text, put_word};
 use std::alloc::{AllocError, Global};
@@ -36,6 +38,21 @@ fn put_setting(alloc: Global, out: &mut Vec<u8>, word: &[u8], number: u16) -> Re
     ensures { OnOk result (out.new.items ≡ out.old.items ++ word.now ++ decimal number) }
 {
     put(alloc, out, &[Text(word), Number(number as u64)])
+}
+
+fn put_quantity(
+    alloc: Global,
+    out: &mut Vec<u8>,
+    quantity: Quantity,
+    number: u16,
+) -> Result<(), AllocError>
+    ensures { OnOk result (out.new.items ≡ out.old.items ++ quantity_text quantity ++ codes " " ++ decimal number) }
+{
+    put(
+        alloc,
+        out,
+        &[Text(quantity.text()), Text(b" "), Number(number as u64)],
+    )
 }
 
 fn put_applid(alloc: Global, out: &mut Vec<u8>, site: Site, name: &[u8]) -> Result<(), AllocError>
@@ -97,13 +114,7 @@ pub fn put_line(alloc: Global, out: &mut Vec<u8>, line: &Line) -> Result<(), All
     match line {
         Line::Applid(site, name) => put_applid(alloc, out, *site, name.text()),
         Line::Takeovr(mode) => put_named(alloc, out, b"TAKEOVR ", mode_word(*mode)),
-        Line::Adi(number) => put_setting(alloc, out, b"ADI ", *number),
-        Line::Pdi(number) => put_setting(alloc, out, b"PDI ", *number),
-        Line::Log(number) => put_setting(alloc, out, b"LOG ", *number),
-        Line::Ring(number) => put_setting(alloc, out, b"RING ", *number),
-        Line::File(number) => put_setting(alloc, out, b"FILE ", *number),
-        Line::Pace(number) => put_setting(alloc, out, b"PACE ", *number),
-        Line::Ticks(number) => put_setting(alloc, out, b"TICKS ", *number),
+        Line::Quantity(quantity, number) => put_quantity(alloc, out, *quantity, *number),
         Line::Images(true) => put_text(out, b"IMAGES ON"),
         Line::Images(false) => put_text(out, b"IMAGES OFF"),
         Line::Level(site, level) => put_level(alloc, out, *site, *level),

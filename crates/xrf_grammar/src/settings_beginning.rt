@@ -4,6 +4,7 @@ ghost use Rattle.xrf_grammar.specs.Grammar.{AreAmong};
 ghost use Rattle.xrf_grammar.specs.Table.{settings_of, settings_of_two};
 
 use crate::form::{ChoiceForm, Form, ItemForm};
+use crate::quantity::Quantity;
 use crate::word::{fifth, first, third};
 use xrf_base::Takeovr;
 use xrf_cebt::Cebt;
@@ -105,13 +106,13 @@ fn number_beginning(format: Format, word: &[u8]) -> &'static [Form]
     ensures { AreAmong result.now (settings_of format) }
 {
     match word {
-        b"ADI" => &[Form::Adi],
-        b"PDI" => &[Form::Pdi],
-        b"LOG" => &[Form::Log],
-        b"RING" => &[Form::Ring],
-        b"FILE" => &[Form::File],
-        b"PACE" => &[Form::Pace],
-        b"TICKS" => &[Form::Ticks],
+        b"ADI" => &[Form::Quantity(Quantity::Adi)],
+        b"PDI" => &[Form::Quantity(Quantity::Pdi)],
+        b"LOG" => &[Form::Quantity(Quantity::Log)],
+        b"RING" => &[Form::Quantity(Quantity::Ring)],
+        b"FILE" => &[Form::Quantity(Quantity::File)],
+        b"PACE" => &[Form::Quantity(Quantity::Pace)],
+        b"TICKS" => &[Form::Quantity(Quantity::Ticks)],
         _ => match format {
             Format::One => &[],
             Format::Two => level_beginning(word),

@@ -4,6 +4,7 @@ ghost use Rattle.std.specs.Prelude.{◌≡◌};
 ghost use Rattle.xrf_grammar.specs.Table.{settings_of, choices_table};
 
 use crate::form::{ChoiceForm, Form, ItemForm};
+use crate::quantity::Quantity;
 use xrf_base::Takeovr;
 use xrf_cebt::Cebt;
 use xrf_exit::ExitAnswer;
@@ -57,13 +58,13 @@ macro_rules! settings {
                 Form::Takeovr(Takeovr::Auto),
                 Form::Takeovr(Takeovr::Manual),
                 Form::Takeovr(Takeovr::Command),
-                Form::Adi,
-                Form::Pdi,
-                Form::Log,
-                Form::Ring,
-                Form::File,
-                Form::Pace,
-                Form::Ticks,
+                Form::Quantity(Quantity::Adi),
+                Form::Quantity(Quantity::Pdi),
+                Form::Quantity(Quantity::Log),
+                Form::Quantity(Quantity::Ring),
+                Form::Quantity(Quantity::File),
+                Form::Quantity(Quantity::Pace),
+                Form::Quantity(Quantity::Ticks),
                 Form::Images(true),
                 Form::Images(false),
                 $($level,)*

@@ -1,5 +1,5 @@
 -- What the lines of a text keep of what is said, and the scenario that is said.
-use Rattle.std.proofs.Common.{◌≡◌, ◌≤◌, ◌<◌, ◌+◌, ◌-◌, ◌⊎◌, inl, inr, ℕ, zero, suc, Bool, true, false, IfSome, if◌then◌else◌, Option, Some, None, is_none, unwrap_or, List, [], ◌∷◌, ◌++◌, length, drop, replicate, get_or, slice_set, Result, Ok, Err, nat_le, nat_lt, codes, refl, sym, ◌∙◌, ap, subst, arith, length-set, length-append}
+use Rattle.std.proofs.Common.{◌≡◌, ◌≤◌, ◌<◌, ◌+◌, ◌-◌, ◌⊎◌, inl, inr, ℕ, zero, suc, Bool, true, false, IfSome, if◌then◌else◌, Option, Some, None, is_none, List, [], ◌∷◌, ◌++◌, length, drop, replicate, get_or, slice_set, Result, Ok, Err, nat_le, nat_lt, refl, sym, ◌∙◌, ap, subst, arith, length-set, length-append}
 use Rattle.std.specs.List.{AllByRecursion, list_all}
 use Rattle.std.proofs.lemmas.Bool.{leb-true, ltb-true, ltb-false}
 use Rattle.xrf_base.specs.Values.{IsValue}
@@ -15,11 +15,15 @@ use Rattle.xrf_grammar.specs.Table.{settings_of, choices_table}
 use Rattle.xrf_setup.specs.declared.choice.Choice.{Choice}
 use Rattle.xrf_setup.specs.declared.choice.Choice.TheVariants as choice
 use Rattle.xrf_setup.specs.declared.format.Format.{Format}
-use Rattle.xrf_setup.specs.declared.format.Format.TheVariants.{One, Two}
+use Rattle.xrf_setup.specs.declared.format.Format.TheVariants.{One}
+use Rattle.xrf_grammar.specs.Quantities.{place_of}
+use Rattle.xrf_grammar.specs.declared.quantity.Quantity.{Quantity as Setting}
+use Rattle.xrf_grammar.specs.declared.quantity.Quantity.TheVariants.{Adi}
 use Rattle.xrf_grammar.specs.declared.line.Line.{Line}
-use Rattle.xrf_grammar.specs.declared.line.Line.TheVariants.{Applid, Takeovr, Adi, Pdi, Log, Ring, File, Pace, Ticks, Images, Level, Xrfsoff, Record, Clt, Work, Plan, Choices, Once, Times, End}
+use Rattle.xrf_grammar.specs.declared.line.Line.TheVariants.{Applid, Takeovr, Quantity, Images, Level, Xrfsoff, Record, Clt, Work, Plan, Choices, Once, Times, End}
 use Rattle.xrf_grammar.specs.declared.reason.Reason.{Reason}
 use Rattle.xrf_grammar.specs.declared.reason.Reason.TheVariants.{PlanOrder, RrnRange}
+use Rattle.xrf_grammar.proofs.QuantityLaws.{same-place}
 use Rattle.xrf_grammar.proofs.ApartLaws.{line-again, settings-apart, choices-apart}
 use Rattle.xrf_grammar.proofs.FoundLaws.{setting_found, choosing_found}
 use Rattle.xrf_scenario.specs.Lines.{is_skipped, bytes_fault}
@@ -28,9 +32,8 @@ use Rattle.xrf_scenario.specs.Machine.{step}
 use Rattle.xrf_scenario.specs.Said.{IsLineSaid, is_past, IsGiven, IsFresh, IsSaid}
 use Rattle.xrf_setup.specs.Scenario.{IsScen, AreRecords, ArePlanned}
 use Rattle.xrf_setup.specs.Commands.{IsKept}
-use Rattle.xrf_setup.specs.Settings.{AreSettings, AreLevels}
-use Rattle.xrf_scenario.specs.Settled.{by_number, scenario_of, settled}
-use Rattle.xrf_scenario.specs.SoFar.{SoFar, nothing_given, nothing_said, is_whole, file_said}
+use Rattle.xrf_scenario.specs.Settled.{by_number, scenario_of}
+use Rattle.xrf_scenario.specs.SoFar.{SoFar, quantity_given, nothing_given, nothing_said, is_whole, file_said}
 use Rattle.xrf_scenario.specs.Taking.{once, with_room, free_record, last_tick, numbered, are_within, has_choice_room, take_setting, take}
 use Rattle.xrf_scenario.specs.declared.given.Given.{Given}
 use Rattle.xrf_scenario.specs.declared.section.Section.{Section}
@@ -38,19 +41,13 @@ use Rattle.xrf_scenario.specs.declared.section.Section.TheVariants.{Start, Setti
 use Rattle.xrf_scenario.specs.declared.numbered.Numbered.{Numbered}
 use Rattle.xrf_scenario.proofs.KeptLaws.{clt-fault, clt-kept}
 use Rattle.xrf_scenario.proofs.ReadingLaws.{step-says}
-use Rattle.xrf_scenario.proofs.SettingsKept.{multiple-units}
+use Rattle.xrf_scenario.proofs.SettingsKept.{settings-said}
 
 -- what is known of a line before the choices
 line-said : (format : Format) (ws : List (List ℕ)) (l : Line) → IsSetting format l → IsLineSaid format ws l
 line-said format ws (Applid site name) is = is
 line-said format ws (Takeovr mode) is = is
-line-said format ws (Adi n) is = is
-line-said format ws (Pdi n) is = is
-line-said format ws (Log n) is = is
-line-said format ws (Ring n) is = is
-line-said format ws (File n) is = is
-line-said format ws (Pace n) is = is
-line-said format ws (Ticks n) is = is
+line-said format ws (Quantity quantity n) is = is
 line-said format ws (Images on) is = is
 line-said format ws (Level site n) is = is
 line-said format ws (Xrfsoff force) is = is
@@ -76,10 +73,18 @@ empty-places : (n : ℕ) → AllByRecursion (λ (place : Option (List ℕ)). IfS
 empty-places zero = tt
 empty-places (suc n) = (tt, empty-places n)
 
+-- no quantity is given
+none-given : (format : Format) (quantity : Setting) → IfSome (quantity_given nothing_given quantity) (λ n. IsSetting format (Quantity quantity n))
+none-given format Adi = tt
+none-given format _ = tt
+
+nothing-is-given : (format : Format) → IsGiven format nothing_given
+nothing-is-given format = record { applid_a = tt; applid_b = tt; quantities = none-given format; level_a = tt; level_b = tt; force = tt }
+
 pub nothing-said : IsSaid nothing_said
 nothing-said = record {
   fresh = (refl, refl, refl);
-  given = record { applid_a = tt; applid_b = tt; adi = tt; pdi = tt; log = tt; ring = tt; file = tt; pace = tt; ticks = tt; level_a = tt; level_b = tt; force = tt };
+  given = nothing-is-given One;
   places = refl;
   values = empty-places 256;
   clt = tt;
@@ -134,22 +139,33 @@ given-said so g here said is = record {
   within = not-past so.section here;
 }
 
+-- a place that is set holds what it is set to, and each other what it held
+held-kept : (P : ℕ → Type 0) (xs : List (Option ℕ)) (at k : ℕ) (x : Option ℕ) → IfSome (get_or xs k None) P → (at ≡ k → IfSome x P) → IfSome (get_or (slice_set xs at x) k None) P
+held-kept P [] at k x was is = tt
+held-kept P (y ∷ ys) zero zero x was is = is refl
+held-kept P (y ∷ ys) zero (suc k) x was is = was
+held-kept P (y ∷ ys) (suc at) zero x was is = was
+held-kept P (y ∷ ys) (suc at) (suc k) x was is = held-kept P ys at k x was (λ e. is (ap suc e))
+
+-- each quantity is kept within its range
+quantities-kept : (format : Format) (given : Given) (quantity : Setting) (n : ℕ) → ((other : Setting) → IfSome (quantity_given given other) (λ m. IsSetting format (Quantity other m))) → IsSetting format (Quantity quantity n)
+    → (other : Setting) → IfSome (get_or (slice_set given.quantities (place_of quantity) (Some n)) (place_of other) None) (λ m. IsSetting format (Quantity other m))
+quantities-kept format given quantity n were is other =
+    held-kept (λ m. IsSetting format (Quantity other m)) given.quantities (place_of quantity) (place_of other) (Some n) (were other)
+    (λ e. subst (λ (q : Setting). IsSetting format (Quantity q n)) (same-place quantity other e) is)
+
 -- each setting is kept within its range
 setting-taken : (so next : SoFar) (l : Line) → so.section ≡ Settings → IsSaid so → IsSetting so.format l → take_setting so so.given l ≡ Ok next → IsSaid next
-setting-taken so next (Applid A name) here said is h = subst IsSaid (once-is so.given.applid_a so next (record so.given { applid_a = Some name }) h) (given-said so (record so.given { applid_a = Some name }) here said (record { applid_a = is; applid_b = said.given.applid_b; adi = said.given.adi; pdi = said.given.pdi; log = said.given.log; ring = said.given.ring; file = said.given.file; pace = said.given.pace; ticks = said.given.ticks; level_a = said.given.level_a; level_b = said.given.level_b; force = said.given.force }))
-setting-taken so next (Applid B name) here said is h = subst IsSaid (once-is so.given.applid_b so next (record so.given { applid_b = Some name }) h) (given-said so (record so.given { applid_b = Some name }) here said (record { applid_a = said.given.applid_a; applid_b = is; adi = said.given.adi; pdi = said.given.pdi; log = said.given.log; ring = said.given.ring; file = said.given.file; pace = said.given.pace; ticks = said.given.ticks; level_a = said.given.level_a; level_b = said.given.level_b; force = said.given.force }))
-setting-taken so next (Adi n) here said is h = subst IsSaid (once-is so.given.adi so next (record so.given { adi = Some n }) h) (given-said so (record so.given { adi = Some n }) here said (record { applid_a = said.given.applid_a; applid_b = said.given.applid_b; adi = is; pdi = said.given.pdi; log = said.given.log; ring = said.given.ring; file = said.given.file; pace = said.given.pace; ticks = said.given.ticks; level_a = said.given.level_a; level_b = said.given.level_b; force = said.given.force }))
-setting-taken so next (Pdi n) here said is h = subst IsSaid (once-is so.given.pdi so next (record so.given { pdi = Some n }) h) (given-said so (record so.given { pdi = Some n }) here said (record { applid_a = said.given.applid_a; applid_b = said.given.applid_b; adi = said.given.adi; pdi = is; log = said.given.log; ring = said.given.ring; file = said.given.file; pace = said.given.pace; ticks = said.given.ticks; level_a = said.given.level_a; level_b = said.given.level_b; force = said.given.force }))
-setting-taken so next (Log n) here said is h = subst IsSaid (once-is so.given.log so next (record so.given { log = Some n }) h) (given-said so (record so.given { log = Some n }) here said (record { applid_a = said.given.applid_a; applid_b = said.given.applid_b; adi = said.given.adi; pdi = said.given.pdi; log = is; ring = said.given.ring; file = said.given.file; pace = said.given.pace; ticks = said.given.ticks; level_a = said.given.level_a; level_b = said.given.level_b; force = said.given.force }))
-setting-taken so next (Ring n) here said is h = subst IsSaid (once-is so.given.ring so next (record so.given { ring = Some n }) h) (given-said so (record so.given { ring = Some n }) here said (record { applid_a = said.given.applid_a; applid_b = said.given.applid_b; adi = said.given.adi; pdi = said.given.pdi; log = said.given.log; ring = is; file = said.given.file; pace = said.given.pace; ticks = said.given.ticks; level_a = said.given.level_a; level_b = said.given.level_b; force = said.given.force }))
-setting-taken so next (File n) here said is h = subst IsSaid (once-is so.given.file so next (record so.given { file = Some n }) h) (given-said so (record so.given { file = Some n }) here said (record { applid_a = said.given.applid_a; applid_b = said.given.applid_b; adi = said.given.adi; pdi = said.given.pdi; log = said.given.log; ring = said.given.ring; file = is; pace = said.given.pace; ticks = said.given.ticks; level_a = said.given.level_a; level_b = said.given.level_b; force = said.given.force }))
-setting-taken so next (Pace n) here said is h = subst IsSaid (once-is so.given.pace so next (record so.given { pace = Some n }) h) (given-said so (record so.given { pace = Some n }) here said (record { applid_a = said.given.applid_a; applid_b = said.given.applid_b; adi = said.given.adi; pdi = said.given.pdi; log = said.given.log; ring = said.given.ring; file = said.given.file; pace = is; ticks = said.given.ticks; level_a = said.given.level_a; level_b = said.given.level_b; force = said.given.force }))
-setting-taken so next (Ticks n) here said is h = subst IsSaid (once-is so.given.ticks so next (record so.given { ticks = Some n }) h) (given-said so (record so.given { ticks = Some n }) here said (record { applid_a = said.given.applid_a; applid_b = said.given.applid_b; adi = said.given.adi; pdi = said.given.pdi; log = said.given.log; ring = said.given.ring; file = said.given.file; pace = said.given.pace; ticks = is; level_a = said.given.level_a; level_b = said.given.level_b; force = said.given.force }))
-setting-taken so next (Level A n) here said is h = subst IsSaid (once-is so.given.level_a so next (record so.given { level_a = Some n }) h) (given-said so (record so.given { level_a = Some n }) here said (record { applid_a = said.given.applid_a; applid_b = said.given.applid_b; adi = said.given.adi; pdi = said.given.pdi; log = said.given.log; ring = said.given.ring; file = said.given.file; pace = said.given.pace; ticks = said.given.ticks; level_a = is; level_b = said.given.level_b; force = said.given.force }))
-setting-taken so next (Level B n) here said is h = subst IsSaid (once-is so.given.level_b so next (record so.given { level_b = Some n }) h) (given-said so (record so.given { level_b = Some n }) here said (record { applid_a = said.given.applid_a; applid_b = said.given.applid_b; adi = said.given.adi; pdi = said.given.pdi; log = said.given.log; ring = said.given.ring; file = said.given.file; pace = said.given.pace; ticks = said.given.ticks; level_a = said.given.level_a; level_b = is; force = said.given.force }))
-setting-taken so next (Xrfsoff force) here said is h = subst IsSaid (once-is so.given.force so next (record so.given { force = Some force }) h) (given-said so (record so.given { force = Some force }) here said (record { applid_a = said.given.applid_a; applid_b = said.given.applid_b; adi = said.given.adi; pdi = said.given.pdi; log = said.given.log; ring = said.given.ring; file = said.given.file; pace = said.given.pace; ticks = said.given.ticks; level_a = said.given.level_a; level_b = said.given.level_b; force = is }))
-setting-taken so next (Takeovr mode) here said is h = subst IsSaid (once-is so.given.takeovr so next (record so.given { takeovr = Some mode }) h) (given-said so (record so.given { takeovr = Some mode }) here said (record { applid_a = said.given.applid_a; applid_b = said.given.applid_b; adi = said.given.adi; pdi = said.given.pdi; log = said.given.log; ring = said.given.ring; file = said.given.file; pace = said.given.pace; ticks = said.given.ticks; level_a = said.given.level_a; level_b = said.given.level_b; force = said.given.force }))
-setting-taken so next (Images on) here said is h = subst IsSaid (once-is so.given.images so next (record so.given { images = Some on }) h) (given-said so (record so.given { images = Some on }) here said (record { applid_a = said.given.applid_a; applid_b = said.given.applid_b; adi = said.given.adi; pdi = said.given.pdi; log = said.given.log; ring = said.given.ring; file = said.given.file; pace = said.given.pace; ticks = said.given.ticks; level_a = said.given.level_a; level_b = said.given.level_b; force = said.given.force }))
+setting-taken so next (Applid A name) here said is h = subst IsSaid (once-is so.given.applid_a so next (record so.given { applid_a = Some name }) h) (given-said so (record so.given { applid_a = Some name }) here said (record { applid_a = is; applid_b = said.given.applid_b; quantities = said.given.quantities; level_a = said.given.level_a; level_b = said.given.level_b; force = said.given.force }))
+setting-taken so next (Applid B name) here said is h = subst IsSaid (once-is so.given.applid_b so next (record so.given { applid_b = Some name }) h) (given-said so (record so.given { applid_b = Some name }) here said (record { applid_a = said.given.applid_a; applid_b = is; quantities = said.given.quantities; level_a = said.given.level_a; level_b = said.given.level_b; force = said.given.force }))
+setting-taken so next (Quantity quantity n) here said is h =
+    let given : Given = record so.given { quantities = slice_set so.given.quantities (place_of quantity) (Some n) } in
+    subst IsSaid (once-is (quantity_given so.given quantity) so next given h) (given-said so given here said (record { applid_a = said.given.applid_a; applid_b = said.given.applid_b; quantities = quantities-kept so.format so.given quantity n said.given.quantities is; level_a = said.given.level_a; level_b = said.given.level_b; force = said.given.force }))
+setting-taken so next (Level A n) here said is h = subst IsSaid (once-is so.given.level_a so next (record so.given { level_a = Some n }) h) (given-said so (record so.given { level_a = Some n }) here said (record { applid_a = said.given.applid_a; applid_b = said.given.applid_b; quantities = said.given.quantities; level_a = is; level_b = said.given.level_b; force = said.given.force }))
+setting-taken so next (Level B n) here said is h = subst IsSaid (once-is so.given.level_b so next (record so.given { level_b = Some n }) h) (given-said so (record so.given { level_b = Some n }) here said (record { applid_a = said.given.applid_a; applid_b = said.given.applid_b; quantities = said.given.quantities; level_a = said.given.level_a; level_b = is; force = said.given.force }))
+setting-taken so next (Xrfsoff force) here said is h = subst IsSaid (once-is so.given.force so next (record so.given { force = Some force }) h) (given-said so (record so.given { force = Some force }) here said (record { applid_a = said.given.applid_a; applid_b = said.given.applid_b; quantities = said.given.quantities; level_a = said.given.level_a; level_b = said.given.level_b; force = is }))
+setting-taken so next (Takeovr mode) here said is h = subst IsSaid (once-is so.given.takeovr so next (record so.given { takeovr = Some mode }) h) (given-said so (record so.given { takeovr = Some mode }) here said (record { applid_a = said.given.applid_a; applid_b = said.given.applid_b; quantities = said.given.quantities; level_a = said.given.level_a; level_b = said.given.level_b; force = said.given.force }))
+setting-taken so next (Images on) here said is h = subst IsSaid (once-is so.given.images so next (record so.given { images = Some on }) h) (given-said so (record so.given { images = Some on }) here said (record { applid_a = said.given.applid_a; applid_b = said.given.applid_b; quantities = said.given.quantities; level_a = said.given.level_a; level_b = said.given.level_b; force = said.given.force }))
 setting-taken so next l here said is h = let same : so ≡ next = cc in subst IsSaid same said
 
 -- one more of a kind, and a place set
@@ -232,13 +248,7 @@ line-taken number so next ws End here said is h = absurd is
 line-taken number so next ws (Applid A name) here said is h = setting-taken so next (Applid A name) here said is h
 line-taken number so next ws (Applid B name) here said is h = setting-taken so next (Applid B name) here said is h
 line-taken number so next ws (Takeovr mode) here said is h = setting-taken so next (Takeovr mode) here said is h
-line-taken number so next ws (Adi n) here said is h = setting-taken so next (Adi n) here said is h
-line-taken number so next ws (Pdi n) here said is h = setting-taken so next (Pdi n) here said is h
-line-taken number so next ws (Log n) here said is h = setting-taken so next (Log n) here said is h
-line-taken number so next ws (Ring n) here said is h = setting-taken so next (Ring n) here said is h
-line-taken number so next ws (File n) here said is h = setting-taken so next (File n) here said is h
-line-taken number so next ws (Pace n) here said is h = setting-taken so next (Pace n) here said is h
-line-taken number so next ws (Ticks n) here said is h = setting-taken so next (Ticks n) here said is h
+line-taken number so next ws (Quantity quantity n) here said is h = setting-taken so next (Quantity quantity n) here said is h
 line-taken number so next ws (Images on) here said is h = setting-taken so next (Images on) here said is h
 line-taken number so next ws (Level A n) here said is h = setting-taken so next (Level A n) here said is h
 line-taken number so next ws (Level B n) here said is h = setting-taken so next (Level B n) here said is h
@@ -280,7 +290,7 @@ header-taken so format here said =
     let fresh : IsFresh Start so = subst (λ (p : Section). IsFresh p so) here said.fresh in
     record {
       fresh = tt;
-      given = subst (IsGiven format) (sym fresh.0) nothing-given;
+      given = subst (IsGiven format) (sym fresh.0) (nothing-is-given format);
       places = said.places;
       values = said.values;
       clt = said.clt;
@@ -295,9 +305,6 @@ header-taken so format here said =
       choices_few = said.choices_few;
       within = λ past. absurd (cc);
     }
-  where
-    nothing-given : IsGiven format nothing_given
-    nothing-given = record { applid_a = tt; applid_b = tt; adi = tt; pdi = tt; log = tt; ring = tt; file = tt; pace = tt; ticks = tt; level_a = tt; level_b = tt; force = tt }
 
 -- each step keeps what is said within its bounds
 pub step-said : (number : ℕ) (so next : SoFar) (line : List ℕ) → IsSaid so → step number so line ≡ Ok next → IsSaid next
@@ -323,38 +330,6 @@ step-said number so next line said h = by (is_skipped line) (is_whole so.section
     by true ended same = subst IsSaid (sym same) said
     by false true says = subst IsSaid (sym says.1) said
     by false false says = in-section so.section refl says.0 says.1
-
--- a setting that is given is within its range, and so is its default
-given-or : {X : Type 0} (P : X → Type 0) (o : Option X) (default : X) → IfSome o P → P default → P (unwrap_or o default)
-given-or P None default is d = d
-given-or P (Some x) default is d = is
-
--- XRF 1 has no levels
-no-force : (force : Option Bool) → IfSome force (λ f. IsSetting One (Xrfsoff f)) → unwrap_or force false ≡ false
-no-force None is = refl
-no-force (Some f) is = let clash : One ≡ Two = is in absurd (cc)
-
-format-levels : (format : Format) (given : Given) → IsGiven format given → AreLevels format (settled format given)
-format-levels One given is = (refl, refl, no-force given.force is.force)
-format-levels Two given is = tt
-
--- the settings of what is said are within their ranges
-settings-said : (format : Format) (given : Given) → IsGiven format given → AreSettings (settled format given)
-settings-said format given is =
-    let log = given-or (λ n. IsSetting format (Log n)) given.log 64 is.log ((omega arith, omega arith), refl) in
-    record {
-      applid_a = given-or (λ name. IsSetting format (Applid A name)) given.applid_a (codes "CICSA") is.applid_a refl;
-      applid_b = given-or (λ name. IsSetting format (Applid B name)) given.applid_b (codes "CICSB") is.applid_b refl;
-      adi = given-or (λ n. IsSetting format (Adi n)) given.adi 30 is.adi (omega arith, omega arith);
-      pdi = given-or (λ n. IsSetting format (Pdi n)) given.pdi 30 is.pdi (omega arith, omega arith);
-      log = log.0;
-      log_units = multiple-units (unwrap_or given.log 64) log.1;
-      ring = given-or (λ n. IsSetting format (Ring n)) given.ring 16 is.ring (omega arith, omega arith);
-      file = given-or (λ n. IsSetting format (File n)) given.file 16 is.file (omega arith, omega arith);
-      pace = given-or (λ n. IsSetting format (Pace n)) given.pace 40 is.pace (omega arith, omega arith);
-      ticks = given-or (λ n. IsSetting format (Ticks n)) given.ticks 60 is.ticks (omega arith, omega arith);
-      levels = format-levels format given is;
-    }
 
 -- records from a number on are records from a smaller one on
 from-less : (less least most : ℕ) (rs : List (ℕ × List ℕ)) → less ≤ least → AreRecords least most rs → AreRecords less most rs

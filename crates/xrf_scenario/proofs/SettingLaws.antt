@@ -1,17 +1,21 @@
 -- What is written of the settings says all of them.
-use Rattle.std.proofs.Common.{◌≡◌, ℕ, Bool, Option, Some, None, Ok, List, [], ◌∷◌, ◌+◌, map, refl, ap, ◌∙◌}
+use Rattle.std.proofs.Common.{◌≡◌, ◌==◌, ◌&&◌, ℕ, Bool, true, Option, Some, None, Ok, List, [], ◌∷◌, ◌++◌, ◌+◌, length, get_or, slice_set, map, append_assoc, length-append, refl, sym, ap, subst, ◌∙◌}
 use Rattle.std.specs.List.{AllByRecursion}
+use Rattle.std.proofs.lemmas.Bool.{and_parts, eqb-true}
+use Rattle.std.proofs.lemmas.List.{get_or_at, set_at}
 use Rattle.xrf_base.specs.declared.site.Site.TheVariants.{A, B}
 use Rattle.xrf_ctl.specs.declared.parts.Level.{Level as Program}
 use Rattle.xrf_ctl.specs.declared.parts.Level.TheVariants as level
 use Rattle.xrf_text.specs.Text.{words}
 use Rattle.xrf_setup.specs.declared.format.Format.{Format}
 use Rattle.xrf_setup.specs.declared.format.Format.TheVariants.{One, Two}
+use Rattle.xrf_grammar.specs.Quantities.{quantities, place_of, quantity_of}
+use Rattle.xrf_grammar.specs.declared.quantity.Quantity.{Quantity as Setting}
 use Rattle.xrf_grammar.specs.declared.line.Line.{Line}
-use Rattle.xrf_grammar.specs.declared.line.Line.TheVariants.{Applid, Takeovr, Adi, Pdi, Log, Ring, File, Pace, Ticks, Images, Level, Xrfsoff}
+use Rattle.xrf_grammar.specs.declared.line.Line.TheVariants.{Applid, Takeovr, Quantity, Images, Level, Xrfsoff}
 use Rattle.xrf_grammar.specs.LineText.{IsSetting, line_text}
 use Rattle.xrf_scenario.specs.Reading.{SaysAll}
-use Rattle.xrf_scenario.specs.SettingLines.{level_number, level_lines, setting_lines}
+use Rattle.xrf_scenario.specs.SettingLines.{level_number, level_lines, quantity_lines, setting_lines}
 use Rattle.xrf_setup.specs.Settings.{AreLevels}
 use Rattle.xrf_scenario.specs.Settled.{level_named, settled}
 use Rattle.xrf_scenario.specs.SoFar.{SoFar, nothing_given}
@@ -22,19 +26,20 @@ use Rattle.xrf_setup.specs.declared.settings.Settings.{Settings}
 use Rattle.xrf_scenario.proofs.SettingsKept.{level-again}
 use Rattle.xrf_scenario.proofs.StepLaws.{setting-written}
 
+-- what is given of some quantities, and where nothing is
+abbrev values_of : Settings → List Setting → List (Option ℕ)
+values_of t qs = map (λ (q : Setting). Some (quantity_of t q)) qs
+
+abbrev nothing_of : List Setting → List (Option ℕ)
+nothing_of qs = map (λ (q : Setting). None) qs
+
 -- what is given where all settings but the levels are
 abbrev without_levels : Settings → Given
 without_levels t = record {
   applid_a = Some t.applid_a;
   applid_b = Some t.applid_b;
   takeovr = Some t.takeovr;
-  adi = Some t.adi;
-  pdi = Some t.pdi;
-  log = Some t.log;
-  ring = Some t.ring;
-  file = Some t.file;
-  pace = Some t.pace;
-  ticks = Some t.ticks;
+  quantities = values_of t quantities;
   images = Some t.images;
   level_a = None;
   level_b = None;
@@ -83,6 +88,49 @@ levels-give so Two t section are =
     gives so (Level B (level_number t.level_b)) (Xrfsoff t.force ∷ []) g1 g2 g3 section are.1.0 (λ number. refl) s2 in
     gives so (Level A (level_number t.level_a)) (Level B (level_number t.level_b) ∷ Xrfsoff t.force ∷ []) g0 g1 g3 section are.0 (λ number. refl) s1
 
+-- each of some quantities stands at its place, the first of them at this one
+abbrev stand_from : ℕ → List Setting → Bool
+stand_from place [] = true
+stand_from place (q ∷ qs) = (place_of q == place) && stand_from (place + 1) qs
+
+-- a line that gives a quantity
+abbrev line_of : Settings → Setting → Line
+line_of t q = Quantity q (quantity_of t q)
+
+-- what is written of quantities gives them, behind those that are given
+quantities-give : (so : SoFar) (t : Settings) (given last : Given) (done : List (Option ℕ)) (qs : List Setting) (lines : List Line) → so.section ≡ section.Settings → stand_from (length done) qs ≡ true
+    → AllByRecursion (IsSetting so.format) (map (line_of t) qs) → Give so (record given { quantities = done ++ values_of t qs }) lines last
+    → Give so (record given { quantities = done ++ nothing_of qs }) (map (line_of t) qs ++ lines) last
+quantities-give so t given last done [] lines section stand are others = others
+quantities-give so t given last done (q ∷ qs) lines section stand are others =
+    gives so (line_of t q) (map (line_of t) qs ++ lines) (of (done ++ None ∷ nothing_of qs)) (of (done ++ value ∷ nothing_of qs)) last section are.0 (λ number. rw (free, filled) refl)
+    (subst (λ (held : List (Option ℕ)). Give so (of held) (map (line_of t) qs ++ lines) last) (append_assoc done (value ∷ []) (nothing_of qs))
+    (quantities-give so t given last (done ++ value ∷ []) qs lines section (rw (length-append done (value ∷ [])) later) are.1
+    (subst (λ (held : List (Option ℕ)). Give so (of held) lines last) (sym (append_assoc done (value ∷ []) (values_of t qs))) others)))
+  where
+    of : List (Option ℕ) → Given
+    of held = record given { quantities = held }
+
+    value : Option ℕ
+    value = Some (quantity_of t q)
+
+    place : place_of q ≡ length done
+    place = eqb-true (place_of q) (length done) (and_parts (place_of q == length done) (stand_from (length done + 1) qs) stand).0
+
+    later : stand_from (length done + 1) qs ≡ true
+    later = (and_parts (place_of q == length done) (stand_from (length done + 1) qs) stand).1
+
+    free : get_or (done ++ None ∷ nothing_of qs) (place_of q) None ≡ None
+    free = get_or_at done None (nothing_of qs) None (place_of q) (sym place)
+
+    filled : slice_set (done ++ None ∷ nothing_of qs) (place_of q) value ≡ done ++ value ∷ nothing_of qs
+    filled = set_at done None (nothing_of qs) value (place_of q) (sym place)
+
+-- what holds of all lines of two lists holds of those of each
+both-lists : (P : Line → Type 0) (front back : List Line) → AllByRecursion P (front ++ back) → AllByRecursion P front × AllByRecursion P back
+both-lists P [] back are = (tt, are)
+both-lists P (l ∷ front) back are = let both = both-lists P front back are.1 in ((are.0, both.0), both.1)
+
 -- What is written of the settings says all of them.
 pub settings-say : (count : ℕ) (so : SoFar) (t : Settings) → so.section ≡ section.Settings → AllByRecursion (IsSetting so.format) (setting_lines t)
     → SaysAll count (with_given so nothing_given) (map line_text (setting_lines t)) (with_given so (given_of t.format t))
@@ -90,45 +138,20 @@ settings-say count so t section are =
     let g1 : Given = record nothing_given { applid_a = Some t.applid_a } in
     let g2 : Given = record g1 { applid_b = Some t.applid_b } in
     let g3 : Given = record g2 { takeovr = Some t.takeovr } in
-    let g4 : Given = record g3 { adi = Some t.adi } in
-    let g5 : Given = record g4 { pdi = Some t.pdi } in
-    let g6 : Given = record g5 { log = Some t.log } in
-    let g7 : Given = record g6 { ring = Some t.ring } in
-    let g8 : Given = record g7 { file = Some t.file } in
-    let g9 : Given = record g8 { pace = Some t.pace } in
-    let g10 : Given = record g9 { ticks = Some t.ticks } in
-    let g11 : Given = record g10 { images = Some t.images } in
+    let g4 : Given = record g3 { quantities = values_of t quantities } in
+    let g5 : Given = record g4 { images = Some t.images } in
     let last : Given = given_of t.format t in
-    let a1 = are.1 in
-    let a2 = a1.1 in
-    let a3 = a2.1 in
-    let a4 = a3.1 in
-    let a5 = a4.1 in
-    let a6 = a5.1 in
-    let a7 = a6.1 in
-    let a8 = a7.1 in
-    let a9 = a8.1 in
-    let a10 = a9.1 in
-    let l11 : List Line = level_lines t.format t in
-    let l10 : List Line = Images t.images ∷ l11 in
-    let l9 : List Line = Ticks t.ticks ∷ l10 in
-    let l8 : List Line = Pace t.pace ∷ l9 in
-    let l7 : List Line = File t.file ∷ l8 in
-    let l6 : List Line = Ring t.ring ∷ l7 in
-    let l5 : List Line = Log t.log ∷ l6 in
-    let l4 : List Line = Pdi t.pdi ∷ l5 in
-    let l3 : List Line = Adi t.adi ∷ l4 in
+    let l5 : List Line = level_lines t.format t in
+    let l4 : List Line = Images t.images ∷ l5 in
+    let l3 : List Line = quantity_lines t ++ l4 in
     let l2 : List Line = Takeovr t.takeovr ∷ l3 in
     let l1 : List Line = Applid B t.applid_b ∷ l2 in
-    let s11 : Give so g11 l11 last = levels-give so t.format t section a10.1 in
-    let s10 : Give so g10 l10 last = gives so (Images t.images) l11 g10 g11 last section a10.0 (λ number. refl) s11 in
-    let s9 : Give so g9 l9 last = gives so (Ticks t.ticks) l10 g9 g10 last section a9.0 (λ number. refl) s10 in
-    let s8 : Give so g8 l8 last = gives so (Pace t.pace) l9 g8 g9 last section a8.0 (λ number. refl) s9 in
-    let s7 : Give so g7 l7 last = gives so (File t.file) l8 g7 g8 last section a7.0 (λ number. refl) s8 in
-    let s6 : Give so g6 l6 last = gives so (Ring t.ring) l7 g6 g7 last section a6.0 (λ number. refl) s7 in
-    let s5 : Give so g5 l5 last = gives so (Log t.log) l6 g5 g6 last section a5.0 (λ number. refl) s6 in
-    let s4 : Give so g4 l4 last = gives so (Pdi t.pdi) l5 g4 g5 last section a4.0 (λ number. refl) s5 in
-    let s3 : Give so g3 l3 last = gives so (Adi t.adi) l4 g3 g4 last section a3.0 (λ number. refl) s4 in
+    let a1 = are.1 in
+    let a2 = a1.1 in
+    let a3 = both-lists (IsSetting so.format) (quantity_lines t) l4 a2.1 in
+    let s5 : Give so g5 l5 last = levels-give so t.format t section a3.1.1 in
+    let s4 : Give so g4 l4 last = gives so (Images t.images) l5 g4 g5 last section a3.1.0 (λ number. refl) s5 in
+    let s3 : Give so g3 l3 last = quantities-give so t g3 last [] quantities l4 section refl a3.0 s4 in
     let s2 : Give so g2 l2 last = gives so (Takeovr t.takeovr) l3 g2 g3 last section a2.0 (λ number. refl) s3 in
     let s1 : Give so g1 l1 last = gives so (Applid B t.applid_b) l2 g1 g2 last section a1.0 (λ number. refl) s2 in
     gives so (Applid A t.applid_a) l1 nothing_given g1 last section are.0 (λ number. refl) s1 count

@@ -1,19 +1,27 @@
 -- Settings within their ranges are those whose lines a text of their format can spell.
-use Rattle.std.proofs.Common.{◌≡◌, ◌%◌, ℕ, IsTrue, refl, arith}
+use Rattle.std.proofs.Common.{◌≡◌, ◌%◌, ℕ, Bool, false, IsTrue, IfSome, Option, Some, None, unwrap_or, codes, refl, arith}
 use Rattle.std.specs.List.{AllByRecursion}
 use Rattle.std.proofs.lemmas.Bool.{eq-eqb, eqb-true}
 use Rattle.xrf_ctl.specs.declared.parts.Level.{Level}
 use Rattle.xrf_ctl.specs.declared.parts.Level.TheVariants as level
 use Rattle.xrf_setup.specs.Ranges.{IsIn}
-use Rattle.xrf_setup.specs.Settings.{AreSettings}
+use Rattle.xrf_setup.specs.Settings.{AreLevels, AreSettings}
 use Rattle.xrf_setup.specs.declared.format.Format.{Format}
 use Rattle.xrf_setup.specs.declared.format.Format.TheVariants.{One, Two}
 use Rattle.xrf_setup.specs.declared.ranges.TheConstants.{LOG_UNIT}
 use Rattle.xrf_setup.specs.declared.settings.Settings.{Settings}
 use Rattle.xrf_grammar.specs.LineText.{IsSetting}
 use Rattle.xrf_grammar.specs.Operands.{is_multiple_of}
+use Rattle.xrf_grammar.specs.Quantities.{IsOfRange, default_of, range_of}
+use Rattle.xrf_grammar.specs.declared.line.Line.TheVariants.{Applid, Xrfsoff}
+use Rattle.xrf_grammar.specs.declared.quantity.Quantity.{Quantity as Setting}
+use Rattle.xrf_grammar.specs.declared.quantity.Quantity.TheVariants.{Adi, Pdi, Log, Ring, File, Pace, Ticks}
+use Rattle.xrf_base.specs.declared.site.Site.TheVariants.{A, B}
+use Rattle.xrf_scenario.specs.Said.{IsGiven}
+use Rattle.xrf_scenario.specs.SoFar.{quantity_given, quantity_or_default}
+use Rattle.xrf_scenario.specs.declared.given.Given.{Given}
 use Rattle.xrf_scenario.specs.SettingLines.{level_number, level_lines, setting_lines, AreLines, SettingsAreLines}
-use Rattle.xrf_scenario.specs.Settled.{level_named}
+use Rattle.xrf_scenario.specs.Settled.{level_named, settled}
 
 -- the number of a level is 1 or 2, and names it
 level-in : (l : Level) → IsIn 1 2 (level_number l)
@@ -28,7 +36,7 @@ level-again level.Two = refl
 units-multiple : (n : ℕ) → n % LOG_UNIT ≡ 0 → IsTrue (is_multiple_of n LOG_UNIT)
 units-multiple n whole = eq-eqb (n % LOG_UNIT) 0 whole
 
-pub multiple-units : (n : ℕ) → IsTrue (is_multiple_of n LOG_UNIT) → n % LOG_UNIT ≡ 0
+multiple-units : (n : ℕ) → IsTrue (is_multiple_of n LOG_UNIT) → n % LOG_UNIT ≡ 0
 multiple-units n is = eqb-true (n % LOG_UNIT) 0 is
 
 -- the lines of the levels are lines of XRF 2
@@ -82,3 +90,44 @@ settings-are t are =
 -- Settings are within their ranges exactly where their lines are lines that a text of their format can spell.
 pub settings_are_lines : SettingsAreLines
 settings_are_lines t = ((λ are. (lines-are t are, are.levels)), settings-are t)
+
+-- the default of a quantity is within its range
+default-is : (quantity : Setting) → IsOfRange (range_of quantity) (default_of quantity)
+default-is Log = ((omega arith, omega arith), refl)
+default-is _ = (omega arith, omega arith)
+
+-- a setting that is given is within its range, and so is its default
+given-or : {X : Type 0} (P : X → Type 0) (o : Option X) (default : X) → IfSome o P → P default → P (unwrap_or o default)
+given-or P None default is d = d
+given-or P (Some x) default is d = is
+
+-- XRF 1 has no levels
+no-force : (force : Option Bool) → IfSome force (λ f. IsSetting One (Xrfsoff f)) → unwrap_or force false ≡ false
+no-force None is = refl
+no-force (Some f) is = let clash : One ≡ Two = is in absurd (cc)
+
+format-levels : (format : Format) (given : Given) → IsGiven format given → AreLevels format (settled format given)
+format-levels One given is = (refl, refl, no-force given.force is.force)
+format-levels Two given is = tt
+
+-- the number of a quantity that is said is within its range
+pub quantity-is : (format : Format) (given : Given) → IsGiven format given → (quantity : Setting) → IsOfRange (range_of quantity) (quantity_or_default given quantity)
+quantity-is format given is quantity = given-or (IsOfRange (range_of quantity)) (quantity_given given quantity) (default_of quantity) (is.quantities quantity) (default-is quantity)
+
+-- the settings of what is said are within their ranges
+pub settings-said : (format : Format) (given : Given) → IsGiven format given → AreSettings (settled format given)
+settings-said format given is =
+    let of : (quantity : Setting) → IsOfRange (range_of quantity) (quantity_or_default given quantity) = quantity-is format given is in
+    record {
+      applid_a = given-or (λ name. IsSetting format (Applid A name)) given.applid_a (codes "CICSA") is.applid_a refl;
+      applid_b = given-or (λ name. IsSetting format (Applid B name)) given.applid_b (codes "CICSB") is.applid_b refl;
+      adi = of Adi;
+      pdi = of Pdi;
+      log = (of Log).0;
+      log_units = multiple-units (quantity_or_default given Log) (of Log).1;
+      ring = of Ring;
+      file = of File;
+      pace = of Pace;
+      ticks = of Ticks;
+      levels = format-levels format given is;
+    }

@@ -5,11 +5,12 @@ use Rattle.xrf_base.specs.declared.items.Item.{Item}
 use Rattle.xrf_base.specs.declared.site.Site.TheVariants.{A, B}
 use Rattle.xrf_clt.specs.Kept.{Kept}
 use Rattle.xrf_grammar.specs.LineText.{header_text, line_text}
-use Rattle.xrf_grammar.specs.declared.line.Line.TheVariants.{Work}
+use Rattle.xrf_grammar.specs.declared.line.Line.TheVariants.{Applid, Takeovr, Images, Work}
 use Rattle.xrf_scenario.specs.Canonical.{fed, text_of, record_lines, clt_lines, plan_lines, scenario_lines}
 use Rattle.xrf_setup.specs.Scenario.{Scen}
-use Rattle.xrf_scenario.specs.SettingLines.{setting_lines}
+use Rattle.xrf_scenario.specs.SettingLines.{setting_lines, quantity_lines, level_lines}
 use Rattle.xrf_setup.specs.Commands.{kept_text}
+use Rattle.xrf_setup.specs.declared.settings.Settings.{Settings}
 use Rattle.xrf_scenario.proofs.TextLaws.{text-both}
 
 -- what is kept of one more line of the command list
@@ -40,6 +41,18 @@ header-written o head line after header ls first feed more =
 more-written : (o before after : List ℕ) (ls ms : List (List ℕ)) → before ≡ o ++ text_of ls → after ≡ before ++ text_of ms → after ≡ o ++ text_of (ls ++ ms)
 more-written o before after ls ms so_far more =
     more ∙ ap (λ (text : List ℕ). text ++ text_of ms) so_far ∙ append_assoc o (text_of ls) (text_of ms) ∙ ap (λ (text : List ℕ). o ++ text) (sym (text-both ls ms))
+
+-- the parts of the settings, written one behind the other
+pub settings-written : (t : Settings) (o front numbers images last : List ℕ) → front ≡ o ++ text_of (map line_text (Applid A t.applid_a ∷ Applid B t.applid_b ∷ Takeovr t.takeovr ∷ []))
+    → numbers ≡ front ++ text_of (map line_text (quantity_lines t)) → images ≡ numbers ++ text_of (map line_text (Images t.images ∷ [])) → last ≡ images ++ text_of (map line_text (level_lines t.format t))
+    → last ≡ o ++ text_of (map line_text (setting_lines t))
+settings-written t o front numbers images last e1 e2 e3 e4 =
+    let l1 : List (List ℕ) = map line_text (Applid A t.applid_a ∷ Applid B t.applid_b ∷ Takeovr t.takeovr ∷ []) in
+    let l2 : List (List ℕ) = map line_text (quantity_lines t) in
+    let l3 : List (List ℕ) = map line_text (Images t.images ∷ []) in
+    let s2 = more-written o front numbers l1 l2 e1 e2 in
+    let s3 = more-written o numbers images (l1 ++ l2) l3 s2 e3 in
+    more-written o images last ((l1 ++ l2) ++ l3) (map line_text (level_lines t.format t)) s3 e4
 
 -- the parts of a scenario, written one behind the other
 pub scenario-written : (s : Scen) (o head line settings records clt work_a work_b plan : List ℕ) → head ≡ o ++ header_text s.settings.format → line ≡ head ++ 10 ∷ []

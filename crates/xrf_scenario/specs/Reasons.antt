@@ -13,12 +13,12 @@ use Rattle.xrf_grammar.specs.declared.form.Form.{Form}
 use Rattle.xrf_setup.specs.declared.format.Format.{Format}
 use Rattle.xrf_setup.specs.declared.ranges.TheConstants.{LINE_MOST}
 use Rattle.xrf_grammar.specs.declared.line.Line.{Line}
-use Rattle.xrf_grammar.specs.declared.line.Line.TheVariants.{Applid, Takeovr, Adi, Pdi, Log, Ring, File, Pace, Ticks, Images, Level, Xrfsoff, Record, Clt, Work, Plan, Choices, Once, Times}
+use Rattle.xrf_grammar.specs.declared.line.Line.TheVariants.{Applid, Takeovr, Quantity, Images, Level, Xrfsoff, Record, Clt, Work, Plan, Choices, Once, Times}
 use Rattle.xrf_grammar.specs.declared.reason.Reason.{Reason}
 use Rattle.xrf_grammar.specs.declared.reason.Reason.TheVariants.{BadByte, LongLine, NoHeader, BadFormat, AfterEnd, PlanOrder, Twice, TooMany, RrnRange}
 use Rattle.xrf_scenario.specs.Lines.{is_report}
 use Rattle.xrf_text.specs.Text.{is_printable}
-use Rattle.xrf_scenario.specs.SoFar.{SoFar, is_whole}
+use Rattle.xrf_scenario.specs.SoFar.{SoFar, is_whole, quantity_given}
 use Rattle.xrf_scenario.specs.Taking.{are_within, has_choice_room, has_clt_room, has_plan_room, has_work_room, is_early, is_free}
 use Rattle.xrf_scenario.specs.declared.section.Section.{Section}
 use Rattle.xrf_scenario.specs.declared.section.Section.TheVariants.{Start, Settings, Making, Whole}
@@ -47,13 +47,7 @@ abbrev pub is_given : SoFar → Line → Bool
 is_given so (Applid A name) = is_some so.given.applid_a
 is_given so (Applid B name) = is_some so.given.applid_b
 is_given so (Takeovr mode) = is_some so.given.takeovr
-is_given so (Adi n) = is_some so.given.adi
-is_given so (Pdi n) = is_some so.given.pdi
-is_given so (Log n) = is_some so.given.log
-is_given so (Ring n) = is_some so.given.ring
-is_given so (File n) = is_some so.given.file
-is_given so (Pace n) = is_some so.given.pace
-is_given so (Ticks n) = is_some so.given.ticks
+is_given so (Quantity quantity n) = is_some (quantity_given so.given quantity)
 is_given so (Images on) = is_some so.given.images
 is_given so (Level A n) = is_some so.given.level_a
 is_given so (Level B n) = is_some so.given.level_b

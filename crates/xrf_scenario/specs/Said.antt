@@ -10,11 +10,12 @@ use Rattle.xrf_grammar.specs.Places.{behind}
 use Rattle.xrf_setup.specs.Choices.{HasLine}
 use Rattle.xrf_setup.specs.declared.format.Format.{Format}
 use Rattle.xrf_setup.specs.declared.ranges.TheConstants.{FILE_MOST, CLT_MOST, ITEMS_MOST, PLAN_MOST, CHOICES_MOST}
+use Rattle.xrf_grammar.specs.declared.quantity.Quantity.{Quantity as Setting}
 use Rattle.xrf_grammar.specs.declared.line.Line.{Line}
-use Rattle.xrf_grammar.specs.declared.line.Line.TheVariants.{Applid, Adi, Pdi, Log, Ring, File, Pace, Ticks, Level, Xrfsoff, Clt}
+use Rattle.xrf_grammar.specs.declared.line.Line.TheVariants.{Applid, Quantity, Level, Xrfsoff, Clt}
 use Rattle.xrf_setup.specs.Scenario.{ArePlanned}
 use Rattle.xrf_setup.specs.Commands.{IsKept}
-use Rattle.xrf_scenario.specs.SoFar.{SoFar, nothing_given}
+use Rattle.xrf_scenario.specs.SoFar.{SoFar, nothing_given, quantity_given}
 use Rattle.xrf_scenario.specs.Taking.{are_within}
 use Rattle.xrf_scenario.specs.declared.given.Given.{Given}
 use Rattle.xrf_scenario.specs.declared.section.Section.{Section}
@@ -36,13 +37,7 @@ is_past _ = false
 pub record IsGiven (format : Format) (given : Given) : Type 0 where
   pub applid_a : IfSome given.applid_a (λ name. IsSetting format (Applid A name))
   pub applid_b : IfSome given.applid_b (λ name. IsSetting format (Applid B name))
-  pub adi : IfSome given.adi (λ n. IsSetting format (Adi n))
-  pub pdi : IfSome given.pdi (λ n. IsSetting format (Pdi n))
-  pub log : IfSome given.log (λ n. IsSetting format (Log n))
-  pub ring : IfSome given.ring (λ n. IsSetting format (Ring n))
-  pub file : IfSome given.file (λ n. IsSetting format (File n))
-  pub pace : IfSome given.pace (λ n. IsSetting format (Pace n))
-  pub ticks : IfSome given.ticks (λ n. IsSetting format (Ticks n))
+  pub quantities : (quantity : Setting) → IfSome (quantity_given given quantity) (λ n. IsSetting format (Quantity quantity n))
   pub level_a : IfSome given.level_a (λ n. IsSetting format (Level A n))
   pub level_b : IfSome given.level_b (λ n. IsSetting format (Level B n))
   pub force : IfSome given.force (λ force. IsSetting format (Xrfsoff force))

@@ -3,11 +3,12 @@ use Rattle.std.specs.Prelude.{◌+◌, ◌==◌, ℕ, false, codes, if◌then◌
 use Rattle.xrf_base.specs.declared.site.Takeovr.TheVariants.{Manual}
 use Rattle.xrf_ctl.specs.declared.parts.Level.{Level}
 use Rattle.xrf_ctl.specs.declared.parts.Level.TheVariants as level
+use Rattle.xrf_grammar.specs.declared.quantity.Quantity.TheVariants.{Adi, Pdi, Log, Ring, File, Pace, Ticks}
 use Rattle.xrf_setup.specs.Scenario.{Scen}
 use Rattle.xrf_setup.specs.declared.format.Format.{Format}
 use Rattle.xrf_setup.specs.declared.format.Format.TheVariants.{One, Two}
 use Rattle.xrf_setup.specs.declared.settings.Settings.{Settings}
-use Rattle.xrf_scenario.specs.SoFar.{SoFar, file_of}
+use Rattle.xrf_scenario.specs.SoFar.{SoFar, quantity_or_default}
 use Rattle.xrf_scenario.specs.declared.given.Given.{Given}
 
 -- Both levels are 1 under XRF 1, and else 2 where no line gives them.
@@ -25,13 +26,13 @@ settled format given = record {
   applid_a = unwrap_or given.applid_a (codes "CICSA");
   applid_b = unwrap_or given.applid_b (codes "CICSB");
   takeovr = unwrap_or given.takeovr Manual;
-  adi = unwrap_or given.adi 30;
-  pdi = unwrap_or given.pdi 30;
-  log = unwrap_or given.log 64;
-  ring = unwrap_or given.ring 16;
-  file = file_of given;
-  pace = unwrap_or given.pace 40;
-  ticks = unwrap_or given.ticks 60;
+  adi = quantity_or_default given Adi;
+  pdi = quantity_or_default given Pdi;
+  log = quantity_or_default given Log;
+  ring = quantity_or_default given Ring;
+  file = quantity_or_default given File;
+  pace = quantity_or_default given Pace;
+  ticks = quantity_or_default given Ticks;
   images = unwrap_or given.images false;
   level_a = level_of format given.level_a;
   level_b = level_of format given.level_b;

@@ -1,7 +1,11 @@
 -- What the lines so far say.
-use Rattle.std.specs.Prelude.{ℕ, Bool, true, false, List, [], replicate, Option, None, unwrap_or}
+use Rattle.std.specs.Prelude.{ℕ, Bool, true, false, List, [], get_or, replicate, Option, None, unwrap_or}
 use Rattle.xrf_base.specs.declared.items.Item.{Item}
 use Rattle.xrf_clt.specs.Kept.{Kept}
+use Rattle.xrf_grammar.specs.Quantities.{place_of, default_of}
+use Rattle.xrf_grammar.specs.declared.quantity.TheConstants.{QUANTITIES}
+use Rattle.xrf_grammar.specs.declared.quantity.Quantity.{Quantity}
+use Rattle.xrf_grammar.specs.declared.quantity.Quantity.TheVariants.{File}
 use Rattle.xrf_setup.specs.declared.choice.Choice.{Choice}
 use Rattle.xrf_setup.specs.declared.ranges.TheConstants.{FILE_MOST}
 use Rattle.xrf_setup.specs.declared.format.Format.{Format}
@@ -27,7 +31,7 @@ pub record SoFar : Type 0 where
   pub choices : List Numbered
 
 abbrev pub nothing_given : Given
-nothing_given = record { applid_a = None; applid_b = None; takeovr = None; adi = None; pdi = None; log = None; ring = None; file = None; pace = None; ticks = None; images = None; level_a = None; level_b = None; force = None }
+nothing_given = record { applid_a = None; applid_b = None; takeovr = None; quantities = replicate QUANTITIES None; images = None; level_a = None; level_b = None; force = None }
 
 -- before the first line
 abbrev pub nothing_said : SoFar
@@ -37,9 +41,15 @@ abbrev pub is_whole : Section → Bool
 is_whole Whole = true
 is_whole _ = false
 
--- FILE, which is 16 where no line gives it
+-- the number that a line gave of a quantity, and else its default
+abbrev pub quantity_given : Given → Quantity → Option ℕ
+quantity_given given quantity = get_or given.quantities (place_of quantity) None
+
+abbrev pub quantity_or_default : Given → Quantity → ℕ
+quantity_or_default given quantity = unwrap_or (quantity_given given quantity) (default_of quantity)
+
 abbrev pub file_of : Given → ℕ
-file_of given = unwrap_or given.file 16
+file_of given = quantity_or_default given File
 
 abbrev pub file_said : SoFar → ℕ
 file_said so = file_of so.given

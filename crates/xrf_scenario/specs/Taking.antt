@@ -5,13 +5,14 @@ use Rattle.xrf_base.specs.declared.items.Item.{Item}
 use Rattle.xrf_base.specs.declared.site.Site.TheVariants.{A, B}
 use Rattle.xrf_clt.specs.Lines.{words_kept}
 use Rattle.xrf_grammar.specs.Places.{behind}
+use Rattle.xrf_grammar.specs.Quantities.{place_of}
 use Rattle.xrf_setup.specs.declared.choice.Choice.{Choice}
 use Rattle.xrf_setup.specs.declared.ranges.TheConstants.{CLT_MOST, ITEMS_MOST, PLAN_MOST, CHOICES_MOST}
 use Rattle.xrf_grammar.specs.declared.line.Line.{Line}
-use Rattle.xrf_grammar.specs.declared.line.Line.TheVariants.{Applid, Takeovr, Adi, Pdi, Log, Ring, File, Pace, Ticks, Images, Level, Xrfsoff, Record, Clt, Work, Plan, Choices, Once, Times, End}
+use Rattle.xrf_grammar.specs.declared.line.Line.TheVariants.{Applid, Takeovr, Quantity, Images, Level, Xrfsoff, Record, Clt, Work, Plan, Choices, Once, Times, End}
 use Rattle.xrf_grammar.specs.declared.reason.Reason.{Reason}
 use Rattle.xrf_grammar.specs.declared.reason.Reason.TheVariants.{PlanOrder, Twice, TooMany, RrnRange}
-use Rattle.xrf_scenario.specs.SoFar.{SoFar, file_said}
+use Rattle.xrf_scenario.specs.SoFar.{SoFar, file_said, quantity_given}
 use Rattle.xrf_scenario.specs.declared.given.Given.{Given}
 use Rattle.xrf_scenario.specs.declared.section.Section.TheVariants.{Making, Whole}
 use Rattle.xrf_scenario.specs.declared.numbered.Numbered.{Numbered}
@@ -71,13 +72,7 @@ abbrev pub take_setting : SoFar → Given → Line → Result SoFar Reason
 take_setting so given (Applid A name) = once given.applid_a so (record given { applid_a = Some name })
 take_setting so given (Applid B name) = once given.applid_b so (record given { applid_b = Some name })
 take_setting so given (Takeovr mode) = once given.takeovr so (record given { takeovr = Some mode })
-take_setting so given (Adi n) = once given.adi so (record given { adi = Some n })
-take_setting so given (Pdi n) = once given.pdi so (record given { pdi = Some n })
-take_setting so given (Log n) = once given.log so (record given { log = Some n })
-take_setting so given (Ring n) = once given.ring so (record given { ring = Some n })
-take_setting so given (File n) = once given.file so (record given { file = Some n })
-take_setting so given (Pace n) = once given.pace so (record given { pace = Some n })
-take_setting so given (Ticks n) = once given.ticks so (record given { ticks = Some n })
+take_setting so given (Quantity quantity n) = once (quantity_given given quantity) so (record given { quantities = slice_set given.quantities (place_of quantity) (Some n) })
 take_setting so given (Images on) = once given.images so (record given { images = Some on })
 take_setting so given (Level A n) = once given.level_a so (record given { level_a = Some n })
 take_setting so given (Level B n) = once given.level_b so (record given { level_b = Some n })

@@ -4,9 +4,11 @@ ghost use Rattle.std.specs.Prelude.{◌≡◌, ◌++◌, ◌∷◌, [], ℕ, OnO
 ghost use Rattle.xrf_base.specs.declared.items.Item.{Item};
 ghost use Rattle.xrf_clt.specs.Kept.{Kept};
 ghost use Rattle.xrf_grammar.specs.LineText.{header_text, line_text};
+ghost use Rattle.xrf_grammar.specs.Quantities.{quantity_of};
 ghost use Rattle.xrf_grammar.specs.Spelling.{choice_text};
 ghost use Rattle.xrf_setup.specs.declared.choice.Choice.{Choice};
 ghost use Rattle.xrf_grammar.specs.declared.line.Line.TheVariants.{Work, Plan};
+ghost use Rattle.xrf_grammar.specs.declared.line.Line.TheVariants as line;
 ghost use Rattle.xrf_scenario.specs.Canonical.{fed, text_of, record_lines, clt_lines, plan_lines, scenario_lines, choice_lines, canon, ReadAgain};
 ghost use Rattle.xrf_setup.specs.Scenario.{IsScen};
 ghost use Rattle.xrf_scenario.specs.SettingLines.{setting_lines, level_lines, SettingsAreLines};
@@ -18,7 +20,7 @@ use xrf_base::{Item, Site, Tick, Value};
 use xrf_clt::Clt;
 use xrf_grammar::writing::Piece::{Number, Text};
 use xrf_grammar::writing::put;
-use xrf_grammar::{Line, put_choice, put_header, put_line};
+use xrf_grammar::{Line, Quantity, put_choice, put_header, put_line, quantities};
 use xrf_setup::{Choice, Format, Scenario, Settings};
 
 fn put_feed(out: &mut Vec<u8>) -> Result<(), AllocError>
@@ -61,6 +63,32 @@ fn put_levels(alloc: Global, out: &mut Vec<u8>, settings: &Settings) -> Result<(
     }
 }
 
+fn put_quantity(
+    alloc: Global,
+    out: &mut Vec<u8>,
+    settings: &Settings,
+    quantity: Quantity,
+) -> Result<(), AllocError>
+    ensures { OnOk result (out.new.items ≡ out.old.items ++ fed (line_text (line.Quantity quantity (quantity_of settings.now quantity)))) }
+{
+    let number = quantity.of(settings);
+    put_fed(alloc, out, &Line::Quantity(quantity, number))
+}
+
+fn put_quantities(
+    alloc: Global,
+    out: &mut Vec<u8>,
+    settings: &Settings,
+    quantities: &[Quantity],
+) -> Result<(), AllocError>
+    ensures { OnOk result (out.new.items ≡ out.old.items ++ text_of (map (λ (q : Quantity). line_text (line.Quantity q (quantity_of settings.now q))) quantities.now)) }
+{
+    for quantity in quantities {
+        put_quantity(alloc, out, settings, *quantity)?;
+    }
+    Ok(())
+}
+
 fn put_settings(alloc: Global, out: &mut Vec<u8>, settings: &Settings) -> Result<(), AllocError>
     ensures { OnOk result (out.new.items ≡ out.old.items ++ text_of (map line_text (setting_lines settings.now))) }
 {
@@ -71,16 +99,10 @@ fn put_settings(alloc: Global, out: &mut Vec<u8>, settings: &Settings) -> Result
             Line::Applid(Site::A, settings.applid_a),
             Line::Applid(Site::B, settings.applid_b),
             Line::Takeovr(settings.takeovr),
-            Line::Adi(settings.adi),
-            Line::Pdi(settings.pdi),
-            Line::Log(settings.log),
-            Line::Ring(settings.ring),
-            Line::File(settings.file),
-            Line::Pace(settings.pace),
-            Line::Ticks(settings.ticks),
-            Line::Images(settings.images),
         ],
     )?;
+    put_quantities(alloc, out, settings, quantities())?;
+    put_lines(alloc, out, &[Line::Images(settings.images)])?;
     put_levels(alloc, out, settings)
 }
 

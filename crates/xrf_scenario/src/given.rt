@@ -1,6 +1,7 @@
 //! The settings that lines gave so far.
 
 use xrf_base::{Name8, Takeovr};
+use xrf_grammar::{QUANTITIES, Quantity};
 
 /// The settings that lines gave, each at most once.
 #[derive(Clone, Copy)]
@@ -8,13 +9,8 @@ pub struct Given {
     pub applid_a: Option<Name8>,
     pub applid_b: Option<Name8>,
     pub takeovr: Option<Takeovr>,
-    pub adi: Option<u16>,
-    pub pdi: Option<u16>,
-    pub log: Option<u16>,
-    pub ring: Option<u16>,
-    pub file: Option<u16>,
-    pub pace: Option<u16>,
-    pub ticks: Option<u16>,
+    /// Each setting that is one number, at its place.
+    pub quantities: [Option<u16>; QUANTITIES],
     pub images: Option<bool>,
     pub level_a: Option<u16>,
     pub level_b: Option<u16>,
@@ -23,12 +19,12 @@ pub struct Given {
 
 impl Given {
     ghost use Rattle.std.specs.Prelude.{◌≡◌};
-    ghost use Rattle.xrf_scenario.specs.SoFar.{file_of};
+    ghost use Rattle.xrf_scenario.specs.SoFar.{quantity_or_default};
 
-    /// FILE, or its default.
-    pub fn file_or_default(&self) -> u16
-        ensures { result ≡ file_of self.now }
+    /// The number of a quantity, or its default.
+    pub fn quantity(&self, quantity: Quantity) -> u16
+        ensures { result ≡ quantity_or_default self.now quantity }
     {
-        self.file.unwrap_or(16)
+        self.quantities[quantity.place()].unwrap_or(quantity.default())
     }
 }

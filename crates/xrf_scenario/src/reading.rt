@@ -11,6 +11,7 @@ use std::alloc::{AllocError, Global};
 use std::marker::Model;
 use xrf_base::{Item, Tick, Value};
 use xrf_clt::Clt;
+use xrf_grammar::QUANTITIES;
 use xrf_setup::ranges::FILE_MOST;
 use xrf_setup::{Choice, Format};
 
@@ -49,13 +50,7 @@ const NOTHING_GIVEN: Given = Given {
     applid_a: None,
     applid_b: None,
     takeovr: None,
-    adi: None,
-    pdi: None,
-    log: None,
-    ring: None,
-    file: None,
-    pace: None,
-    ticks: None,
+    quantities: [None; QUANTITIES],
     images: None,
     level_a: None,
     level_b: None,

@@ -1,6 +1,6 @@
 //! The settings, each of which is given once.
 
-ghost use Rattle.std.specs.Prelude.{Option, Some};
+ghost use Rattle.std.specs.Prelude.{◌<◌, ℕ, List, length, get_or, slice_set, Option, None, Some};
 ghost use Rattle.xrf_scenario.specs.Outcomes.{Takes};
 ghost use Rattle.xrf_scenario.specs.SoFar.{SoFar};
 ghost use Rattle.xrf_scenario.specs.Taking.{once, take_setting};
@@ -19,6 +19,17 @@ fn once<T: Copy>(slot: &mut Option<T>, value: T) -> Result<(), Stop>
         return Err(Stop::Fault(Reason::Twice));
     }
     *slot = Some(value);
+    Ok(())
+}
+
+fn take_quantity(quantities: &mut [Option<u16>], place: usize, n: u16) -> Result<(), Stop>
+    requires { place < length quantities.old }
+    ensures { (so : SoFar) (put : List (Option ℕ) → Given) → Takes result (record so { given = put quantities.old }) (record so { given = put quantities.new }) (once (get_or quantities.old place None) so (put (slice_set quantities.old place (Some n)))) }
+{
+    if quantities[place].is_some() {
+        return Err(Stop::Fault(Reason::Twice));
+    }
+    quantities[place] = Some(n);
     Ok(())
 }
 
@@ -48,13 +59,9 @@ impl Given {
         match line {
             Line::Applid(site, name) => self.take_applid(*site, *name),
             Line::Takeovr(mode) => once(&mut self.takeovr, *mode),
-            Line::Adi(n) => once(&mut self.adi, *n),
-            Line::Pdi(n) => once(&mut self.pdi, *n),
-            Line::Log(n) => once(&mut self.log, *n),
-            Line::Ring(n) => once(&mut self.ring, *n),
-            Line::File(n) => once(&mut self.file, *n),
-            Line::Pace(n) => once(&mut self.pace, *n),
-            Line::Ticks(n) => once(&mut self.ticks, *n),
+            Line::Quantity(quantity, n) => {
+                take_quantity(&mut self.quantities, quantity.place(), *n)
+            }
             Line::Images(on) => once(&mut self.images, *on),
             Line::Level(site, n) => self.take_level(*site, *n),
             Line::Xrfsoff(force) => once(&mut self.force, *force),

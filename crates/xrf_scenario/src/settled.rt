@@ -8,6 +8,7 @@ use crate::given::Given;
 use crate::level::level_named;
 use xrf_base::{Name8, Takeovr};
 use xrf_ctl::Level;
+use xrf_grammar::Quantity;
 use xrf_setup::{Format, Settings};
 
 fn name_or(given: Option<Name8>, default: &[u8]) -> Name8
@@ -48,13 +49,13 @@ pub fn settled(format: Format, given: &Given) -> Settings
         applid_a: name_or(given.applid_a, b"CICSA"),
         applid_b: name_or(given.applid_b, b"CICSB"),
         takeovr: given.takeovr.unwrap_or(Takeovr::Manual),
-        adi: given.adi.unwrap_or(30),
-        pdi: given.pdi.unwrap_or(30),
-        log: given.log.unwrap_or(64),
-        ring: given.ring.unwrap_or(16),
-        file: given.file_or_default(),
-        pace: given.pace.unwrap_or(40),
-        ticks: given.ticks.unwrap_or(60),
+        adi: given.quantity(Quantity::Adi),
+        pdi: given.quantity(Quantity::Pdi),
+        log: given.quantity(Quantity::Log),
+        ring: given.quantity(Quantity::Ring),
+        file: given.quantity(Quantity::File),
+        pace: given.quantity(Quantity::Pace),
+        ticks: given.quantity(Quantity::Ticks),
         images: given.images.unwrap_or(false),
         level_a: level_of(format, given.level_a),
         level_b: level_of(format, given.level_b),

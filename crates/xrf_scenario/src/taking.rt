@@ -24,7 +24,7 @@ use crate::stop::Stop;
 use std::alloc::AllocError;
 use xrf_base::{Site, Tick, Value};
 use xrf_clt::Clt;
-use xrf_grammar::{Line, Reason};
+use xrf_grammar::{Line, Quantity, Reason};
 use xrf_setup::Choice;
 use xrf_setup::ranges::{CHOICES_MOST, CLT_MOST, ITEMS_MOST, PLAN_MOST};
 use xrf_text::split_word;
@@ -162,7 +162,7 @@ impl<'a> Reading<'a> {
             },
             Line::Plan(tick, choice) => take_plan(&mut self.plan, *tick, *choice),
             Line::Choices => {
-                let file = self.given.file_or_default();
+                let file = self.given.quantity(Quantity::File);
                 begin_choices(&mut self.section, &self.records, file)
             }
             _ => self.given.take(line),

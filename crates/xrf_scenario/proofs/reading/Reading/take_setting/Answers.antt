@@ -1,14 +1,16 @@
-use Rattle.std.proofs.Common.{ℕ, List, Option, ◌∙◌, ap, refl}
+use Rattle.std.proofs.Common.{◌≡◌, ◌≤◌, ℕ, List, Option, length, ◌∙◌, ap, refl, arith}
 use Rattle.xrf_base.specs.declared.items.Item.{Item}
 use Rattle.xrf_base.specs.declared.site.Site.{Site}
 use Rattle.xrf_base.specs.declared.site.Site.TheVariants.{A, B}
 use Rattle.xrf_clt.specs.Kept.{Kept}
 use Rattle.xrf_grammar.specs.declared.line.Line.TheVariants.{Record, Clt, Work, Plan, Choices}
+use Rattle.xrf_grammar.specs.declared.quantity.Quantity.TheVariants.{File}
 use Rattle.xrf_scenario.specs.Held.{held}
 use Rattle.xrf_scenario.specs.SoFar.{SoFar}
 use Rattle.xrf_scenario.specs.declared.section.Section.{Section}
 use Rattle.xrf_setup.specs.declared.choice.Choice.{Choice}
 use Rattle.xrf_text.specs.Text.{words}
+use Rattle.xrf_scenario.proofs.SettingsKept.{quantity-is}
 use Rattle.xrf_scenario.proofs.TakenLaws.{setting-stays, as-setting}
 use Rattle.xrf_scenario.proofs.reading.Reading.take_setting.Goals as goal
 
@@ -56,11 +58,11 @@ returns-in-Plan c = λ number. rw (c.in-Plan.is, ← c.self.view_is) (c.take_pla
 pub invariant_of-self-in-Choices : goal.invariant_of-self-in-Choices
 invariant_of-self-in-Choices c =
     setting-stays c.begin_choices.result _ _ _ (words c.args.text.now) c.args.line.now Choices c.self.view_is c.in-Choices.is c.requires.section c.requires.line c.self.invariant
-    (rw (c.deref.ensures.value, c.file_or_default-file.ensures) at c.begin_choices.ensures (λ (section : Section). record (held c.self.inside) { section = section }))
+    (rw (c.deref.ensures.value, c.quantity-file.ensures) at c.begin_choices.ensures (λ (section : Section). record (held c.self.inside) { section = section }))
 
 pub returns-in-Choices : goal.returns-in-Choices
 returns-in-Choices c = λ number.
-    rw (c.in-Choices.is, ← c.self.view_is) (rw (c.deref.ensures.value, c.file_or_default-file.ensures) at c.begin_choices.ensures (λ (section : Section). record (held c.self.inside) { section = section }))
+    rw (c.in-Choices.is, ← c.self.view_is) (rw (c.deref.ensures.value, c.quantity-file.ensures) at c.begin_choices.ensures (λ (section : Section). record (held c.self.inside) { section = section }))
 
 pub invariant_of-self-in_default : goal.invariant_of-self-in_default
 invariant_of-self-in_default c =
@@ -74,3 +76,10 @@ returns-in_default c = λ number.
     let so : SoFar = held c.self.inside in
     let is = as-setting number so _ (words c.args.text.now) c.args.line.now c.requires.line c.in_default.not-Record c.in_default.not-Clt c.in_default.not-Work c.in_default.not-Plan c.in_default.not-Choices in
     rw (← c.self.view_is, is) (c.take.ensures so)
+
+pub begin_choices-requires : goal.begin_choices-requires
+begin_choices-requires c =
+    let given = c.self.invariant.given in
+    let file : c.quantity-file.result ≤ 256 = rw c.quantity-file.ensures (quantity-is _ _ given File).1 in
+    let places : length c.deref.result.now ≡ 256 = rw c.deref.ensures.value c.self.invariant.places in
+    omega (arith, file, places)

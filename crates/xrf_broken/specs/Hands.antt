@@ -67,3 +67,11 @@ abbrev pub a_taking_is_removed_by_the_owner : List Entry
 a_taking_is_removed_by_the_owner =
     by_a 1 (act.CtlWrite (of_parts 1 2 (owner_of 1 site.A state.Running) (alt_of 2 site.B) None)) ∷
     signing_off_over_a_taking
+
+-- the waiting alternate has gone on to its next acts, and takes itself out of the record
+abbrev pub a_waiting_alternate_withdraws : List Entry
+a_waiting_alternate_withdraws =
+    by_b 1 (act.CtlWrite (of_parts 1 2 (owner_of 1 site.A state.Running) None None)) ∷
+    by_b 1 act.CtlRead ∷
+    by_b 1 act.Reserve ∷
+    commanded

@@ -38,3 +38,8 @@ pub fn a_standby_replaces_a_live_alternate()
 pub fn a_taking_is_removed_by_the_owner()
     ensures { OwnHand pair.scenario broken.a_taking_is_removed_by_the_owner → ⊥ }
 {}
+
+/// A waiting alternate takes its taking out of the record, and it could read its messages.
+pub fn a_waiting_alternate_withdraws()
+    ensures { OwnHand pair.scenario broken.a_waiting_alternate_withdraws → ⊥ }
+{}

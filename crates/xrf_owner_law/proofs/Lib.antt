@@ -5,6 +5,7 @@ pub mod Invariant
 pub mod WritesOfRuns
 pub mod OneUpdaterLaw
 pub mod RuleLaw
+pub mod LeavingLaw
 pub mod OwnHandLaw
 pub mod FormatLaw
 pub mod PlaceLaw

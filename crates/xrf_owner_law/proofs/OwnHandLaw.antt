@@ -1,24 +1,27 @@
 -- Own hand: nobody changes an owner's state but the owner itself, and a place in the record goes by its own hand, by
 -- the drop, or once it is confirmed that its job ended.
-use Rattle.std.proofs.Common.{arith, true, ◌≡◌, ℕ, false, ◌⊎◌, inl, inr, subst, List, ap, sym, ◌∙◌, refl, ◌∷◌, Bool, is_some, ◌==◌, ◌||◌, Some}
+use Rattle.std.proofs.Common.{arith, true, ◌≡◌, ℕ, false, ◌⊎◌, inl, inr, subst, List, ap, sym, ◌∙◌, refl, ◌∷◌, Bool, is_some, ◌==◌, ◌||◌, ◌&&◌, not, Option, None, Some, IfSome}
 use Rattle.std.proofs.lemmas.Grind.{common_steps}
 use Rattle.xrf_base.specs.declared.site.Site.{Site}
 use Rattle.xrf_ctl.specs.Control.{ControlRecord, KeepsRule}
 use Rattle.xrf_ctl.specs.declared.parts.OwnerState.{OwnerState}
+use Rattle.xrf_ctl.specs.declared.parts.Taking.{Taking}
 use Rattle.xrf_cavm.specs.declared.known.Known.{Known}
 use Rattle.xrf_cavm.specs.Writes.{with_state}
-use Rattle.xrf_cavm.specs.Record.{inc_of_alt}
+use Rattle.xrf_cavm.specs.Record.{inc_of_alt, inc_of_owner}
 use Rattle.xrf_history.proofs.Writes.{IsRuled, Wrote, of_alternate}
 use Rattle.xrf_history.specs.declared.settings.Settings.{Settings}
 use Rattle.xrf_history.specs.Reserving.{SignOnActive, GoThrough, Purpose, SignOff, known_read, purpose, SignOnStandby, DropAlternate, Leave, StartTakeover}
+use Rattle.xrf_history.proofs.Decisions.{is_start, purposed as purposed-of}
 use Rattle.xrf_history.proofs.Purposes.{is_sign_off, Suits}
 use Rattle.xrf_history.specs.Events.{Event}
-use Rattle.xrf_history.proofs.Phases.{Phase}
-use Rattle.xrf_history.specs.Holding.{is_granted, is_owner, number}
+use Rattle.xrf_history.proofs.Phases.{Phase, before_write}
+use Rattle.xrf_history.specs.Holding.{has_started_takeover, is_granted, is_owner, is_tracking, is_waiting, number}
 use Rattle.xrf_history.proofs.Holding.{owner-granted}
 use Rattle.xrf_history.specs.Notices.{is_drop}
 use Rattle.xrf_history.proofs.Tests.{or-right, or-left}
-use Rattle.xrf_trace.specs.OwnHand.{changes_state, state_of, IsByOwner, ChangesNoMore, alternate_goes, inc_of_taking, taking_goes, is_own_or_ended, AlternateLets, TakingLets, OwnHand}
+use Rattle.xrf_trace.specs.OwnHand.{changes_state, state_of, IsByOwner, ChangesNoMore, alternate_goes, inc_of_taking, taking_goes, is_own_or_ended, AlternateLets, has_failed, lets_taking, TakingLets, OwnHand}
+use Rattle.xrf_trace.specs.Throughs.{changes_owner}
 use Rattle.xrf_trace.specs.declared.entry.Entry.{Entry}
 use Rattle.xrf_trace.specs.Devices.{control}
 use Rattle.xrf_trace.specs.OneUpdater.{running_owner}
@@ -36,7 +39,9 @@ use Rattle.xrf_owner_law.specs.Owner.{IsOwner, Knows}
 use Rattle.xrf_owner_law.proofs.WritesOfRuns.{WritesAt, inc-at, writes-at, writes-now}
 use Rattle.xrf_owner_law.specs.Views.{is_over}
 use Rattle.xrf_owner_law.proofs.StateSteps.{suits-alternate}
+use Rattle.xrf_owner_law.proofs.LeavingLaw.{is_leave, leaves-failed}
 use Rattle.xrf_owner_law.proofs.RuleLaw.{kept}
+use Rattle.xrf_owner_law.proofs.TakingLaw.{Untaken, untaken}
 
 -- a sign-on as active, and a through, make another owner
 active-other : (p : Settings) (me : ℕ) (c w : ControlRecord) (known : Known) → Wrote p SignOnActive me c known w → IsRuled c
@@ -209,27 +214,70 @@ alternate-act s t e x h (act.CtlWrite w) is who here acts =
     (alt-lets (settings s x) (purpose h) (number h) (control t) w (known_read h) (confirmed t) at.written.did at.written.knows goes))
 alternate-act s t e x h _ is who here acts = tt
 
+-- a through changes the owner
+through-changes : (p : Settings) (me : ℕ) (c w : ControlRecord) (known : Known) → Wrote p GoThrough me c known w → IsRuled c
+    → not (inc_of_owner w.owner == inc_of_owner c.owner) ≡ true
+through-changes p me c w known did rule = grind (arith, common_steps)
+
+-- an alternate beside a taking waits
+waits-beside : (granted owner started : Bool) (taking : Option Taking) → granted ≡ true → owner ≡ false → ((granted && not owner && not started) ≡ true → taking ≡ None)
+    → is_some taking ≡ true → (granted && not owner && started) ≡ true
+waits-beside granted owner started taking holds other untaken some = grind (arith, common_steps)
+
+-- the taking was there
+taking-some : (c w : ControlRecord) → taking_goes c w ≡ true → is_some c.taking ≡ true
+taking-some c w goes = grind (arith, common_steps)
+
+-- who takes its own taking away waits
+taker-waits : (s : Scen) (t : List Entry) (e : Entry) (x : Site) (h : List Event) (w : ControlRecord) → IsRun s t → WritesAt s t e x h w
+    → of_alternate (purpose h) ≡ true → taking_goes (control t) w ≡ true → is_waiting h ≡ true
+taker-waits s t e x h w is at own goes =
+    let suits = suits-alternate (purpose h) (is_granted h) (is_owner h) at.written.suits own in
+    let none : is_tracking h ≡ true → (control t).taking ≡ None = subst (λ (job : Option (List Event)). IfSome job (Untaken s (control t) (confirmed t) x)) at.made.there (untaken s t is x) in
+    waits-beside (is_granted h) (is_owner h) (has_started_takeover h) (control t).taking suits.0 suits.1 none (taking-some (control t) w goes)
+
+-- it goes through, or leaves since an act of it failed
+taker-may : (s : Scen) (t : List Entry) (e : Entry) (x : Site) (h : List Event) (w : ControlRecord) (q : Purpose) → WritesAt s t e x h w → is_waiting h ≡ true
+    → of_alternate q ≡ true → purpose h ≡ q → (changes_owner (control t) (act.CtlWrite w) || has_failed h) ≡ true
+taker-may s t e x h w GoThrough at waiting own purposed =
+    or-left (changes_owner (control t) (act.CtlWrite w)) (has_failed h)
+    (through-changes (settings s x) (number h) (control t) w (known_read h)
+    (subst (λ (q : Purpose). Wrote (settings s x) q (number h) (control t) (known_read h) w) purposed at.written.did) at.rule)
+taker-may s t e x h w (Leave reason) at waiting own purposed =
+    or-right (changes_owner (control t) (act.CtlWrite w)) (has_failed h)
+    (leaves-failed (settings s x) h at.path (ap before_write at.phase) (ap is_leave purposed) waiting)
+taker-may s t e x h w (StartTakeover cause) at waiting own purposed =
+    let tracks : is_waiting h ≡ false = (purposed-of (settings s x) h at.path (ap before_write at.phase)).0 (ap is_start purposed) in absurd (cc (sym waiting ∙ tracks))
+taker-may s t e x h w _ at waiting own purposed = absurd (cc)
+
+-- such a taking may go
+may-go : (taken inc : ℕ) (ended may : Bool) → (ended ≡ true) ⊎ ((taken ≡ inc) × (may ≡ true)) → (ended || (taken == inc && may)) ≡ true
+may-go taken inc ended may lets = grind (arith, common_steps)
+
 -- a taking goes by its own hand, or is confirmed
-taking-by : (s : Scen) (t : List Entry) (e : Entry) (x : Site) (h : List Event) (w : ControlRecord) → WritesAt s t e x h w → e.act ≡ act.CtlWrite w
-    → (confirmed t (inc_of_alt (control t).alt) ≡ true) ⊎ ((inc_of_alt (control t).alt ≡ number h) × (of_alternate (purpose h) ≡ true))
-    → is_own_or_ended t e (inc_of_alt (control t).alt) ≡ true
-taking-by s t e x h w at acts (inl ended) = own-ended (inc_of_alt (control t).alt) e.inc (confirmed t (inc_of_alt (control t).alt)) (inl ended)
-taking-by s t e x h w at acts (inr own) =
-    own-ended (inc_of_alt (control t).alt) e.inc (confirmed t (inc_of_alt (control t).alt)) (inr (own.0 ∙ own-inc s t e x h w at acts own.1))
+taking-by : (s : Scen) (t : List Entry) (e : Entry) (x : Site) (h : List Event) (w : ControlRecord) → IsRun s t → WritesAt s t e x h w → e.act ≡ act.CtlWrite w
+    → taking_goes (control t) w ≡ true → (confirmed t (inc_of_alt (control t).alt) ≡ true) ⊎ ((inc_of_alt (control t).alt ≡ number h) × (of_alternate (purpose h) ≡ true))
+    → lets_taking t e h (inc_of_alt (control t).alt) ≡ true
+taking-by s t e x h w is at acts goes (inl ended) =
+    may-go (inc_of_alt (control t).alt) e.inc (confirmed t (inc_of_alt (control t).alt)) (changes_owner (control t) e.act || has_failed h) (inl ended)
+taking-by s t e x h w is at acts goes (inr own) =
+    may-go (inc_of_alt (control t).alt) e.inc (confirmed t (inc_of_alt (control t).alt)) (changes_owner (control t) e.act || has_failed h)
+    (inr (
+      own.0 ∙ own-inc s t e x h w at acts own.1,
+      ap (λ (a : Act). changes_owner (control t) a || has_failed h) acts ∙ taker-may s t e x h w (purpose h) at (taker-waits s t e x h w is at own.1 goes) own.1 refl,
+    ))
 
 -- so it is at each act
-taking-act : (s : Scen) (t : List Entry) (e : Entry) (a : Act) → IsRun s (e ∷ t) → e.act ≡ a → TakingLets t e a
-taking-act s t e (act.CtlWrite w) is acts =
-    where-so (taking_goes (control t) w) (is_own_or_ended t e (inc_of_taking (control t).taking) ≡ true) (λ goes.
-    let found = writes-at s t e w is acts in
-    let x = found.0 in
-    let h = found.1 in
-    let at = found.2 in
+taking-act : (s : Scen) (t : List Entry) (e : Entry) (x : Site) (h : List Event) (a : Act) → IsRun s (e ∷ t) → e.who ≡ who_at x → hist s t x ≡ Some h
+    → e.act ≡ a → TakingLets t e h a
+taking-act s t e x h (act.CtlWrite w) is who here acts =
+    where-so (taking_goes (control t) w) (lets_taking t e h (inc_of_taking (control t).taking) ≡ true) (λ goes.
+    let at = writes-now s t e x h w is who here acts in
     let rule = (kept s t is.0).rule in
-    ap (is_own_or_ended t e) (taking-own (control t) w rule goes).1
-    ∙ taking-by s t e x h w at acts
+    ap (lets_taking t e h) (taking-own (control t) w rule goes).1
+    ∙ taking-by s t e x h w is.0 at acts goes
     (taking-lets (settings s x) (purpose h) (number h) (control t) w (known_read h) (confirmed t) at.written.did at.written.knows rule goes))
-taking-act s t e _ is acts = tt
+taking-act s t e x h _ is who here acts = tt
 
 -- a fact of an entry that lands
 where-lands : (e : Entry) (F : Type 0) → F → Where (lands e.land) F
@@ -243,6 +291,6 @@ own-hand s t is = record {
       (λ t e is. where-lands e (ChangesNoMore t e.act) (no-more s t e e.act is refl)) t is;
   alternates = each-of s (λ t e. Where (lands e.land) (AtSite s t e.who (λ x h. AlternateLets t e h e.act)))
       (λ t e is. where-at s t e (lands e.land) (λ x h. AlternateLets t e h e.act) (λ landed x h who here. alternate-act s t e x h e.act is who here refl)) t is;
-  takings =
-      each-of s (λ t e. Where (lands e.land) (TakingLets t e e.act)) (λ t e is. where-lands e (TakingLets t e e.act) (taking-act s t e e.act is refl)) t is;
+  takings = each-of s (λ t e. Where (lands e.land) (AtSite s t e.who (λ x h. TakingLets t e h e.act)))
+      (λ t e is. where-at s t e (lands e.land) (λ x h. TakingLets t e h e.act) (λ landed x h who here. taking-act s t e x h e.act is who here refl)) t is;
 }

@@ -1,6 +1,7 @@
 -- Own hand: nobody changes an owner's state but the owner itself, and nobody's place in the record goes while it may
--- still be at work, but by its own hand or by the drop.
-use Rattle.std.specs.Prelude.{◌≡◌, ℕ, ◌==◌, Bool, true, ◌&&◌, ◌||◌, not, is_some, List, Option, Some, None}
+-- still be at work, but by its own hand or by the drop. A taking goes with its through, or as its alternate leaves that
+-- can't read its messages.
+use Rattle.std.specs.Prelude.{◌≡◌, ℕ, ◌==◌, Bool, true, false, ◌&&◌, ◌||◌, not, is_some, List, [], ◌∷◌, Option, Some, None}
 use Rattle.xrf_ctl.specs.declared.parts.Owner.{Owner}
 use Rattle.xrf_ctl.specs.declared.parts.OwnerState.{OwnerState}
 use Rattle.xrf_ctl.specs.declared.parts.OwnerState.TheVariants.{Running}
@@ -8,7 +9,7 @@ use Rattle.xrf_ctl.specs.declared.parts.Taking.{Taking}
 use Rattle.xrf_ctl.specs.Control.{ControlRecord}
 use Rattle.xrf_cavm.specs.Record.{inc_of_owner, inc_of_alt, is_alt, is_state}
 use Rattle.xrf_cavm.specs.Writes.{with_state}
-use Rattle.xrf_history.specs.Events.{Event}
+use Rattle.xrf_history.specs.Events.{Event, ActFailed}
 use Rattle.xrf_history.specs.Reserving.{purpose}
 use Rattle.xrf_history.specs.Notices.{is_drop}
 use Rattle.xrf_trace.specs.declared.entry.Entry.{Entry}
@@ -18,7 +19,7 @@ use Rattle.xrf_trace.specs.Scenario.{Scen}
 use Rattle.xrf_trace.specs.Landing.{lands}
 use Rattle.xrf_trace.specs.Words.{confirmed}
 use Rattle.xrf_trace.specs.Devices.{control}
-use Rattle.xrf_trace.specs.Throughs.{has_taking}
+use Rattle.xrf_trace.specs.Throughs.{changes_owner, has_taking}
 use Rattle.xrf_trace.specs.OneUpdater.{running_owner}
 use Rattle.xrf_trace.specs.Each.{Each, Where, AtSite}
 
@@ -64,13 +65,23 @@ AlternateLets t e h (act.CtlWrite written) =
     Where (alternate_goes (control t) written) ((is_own_or_ended t e (inc_of_alt (control t).alt) || is_drop (purpose h)) ≡ true)
 AlternateLets t e h _ = Unit {0}
 
--- and one by which the taking goes is by its own hand, or it is confirmed that it ended
-abbrev pub TakingLets : List Entry → Entry → Act → Type 0
-TakingLets t e (act.CtlWrite written) = Where (taking_goes (control t) written) (is_own_or_ended t e (inc_of_taking (control t).taking) ≡ true)
-TakingLets t e _ = Unit {0}
+-- an act of it has failed; of an alternate no act can but the read of a message
+abbrev pub has_failed : List Event → Bool
+has_failed [] = false
+has_failed (ActFailed tried at ∷ h) = true
+has_failed (_ ∷ h) = has_failed h
+
+-- A write by which the taking goes is made once it is confirmed that its incarnation ended; or it is by its own hand,
+-- which goes through, or leaves since it can't read its messages.
+abbrev pub lets_taking : List Entry → Entry → List Event → (taken : ℕ) → Bool
+lets_taking t e h taken = confirmed t taken || (taken == e.inc && (changes_owner (control t) e.act || has_failed h))
+
+abbrev pub TakingLets : List Entry → Entry → List Event → Act → Type 0
+TakingLets t e h (act.CtlWrite written) = Where (taking_goes (control t) written) (lets_taking t e h (inc_of_taking (control t).taking) ≡ true)
+TakingLets t e h _ = Unit {0}
 
 pub record OwnHand (s : Scen) (t : List Entry) : Type 0 where
   pub states : Each (λ t e. Where (lands e.land) (IsByOwner t e e.act)) t
   pub states_alone : Each (λ t e. Where (lands e.land) (ChangesNoMore t e.act)) t
   pub alternates : Each (λ t e. Where (lands e.land) (AtSite s t e.who (λ x h. AlternateLets t e h e.act))) t
-  pub takings : Each (λ t e. Where (lands e.land) (TakingLets t e e.act)) t
+  pub takings : Each (λ t e. Where (lands e.land) (AtSite s t e.who (λ x h. TakingLets t e h e.act))) t

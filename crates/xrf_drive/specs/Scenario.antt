@@ -7,16 +7,17 @@ use Rattle.xrf_base.specs.declared.site.Site.{Site}
 use Rattle.xrf_base.specs.declared.site.Site.TheVariants.{A, B}
 use Rattle.xrf_base.specs.declared.site.Takeovr.TheVariants.{Auto}
 use Rattle.xrf_grammar.specs.Spelling.{site_word}
+use Rattle.xrf_grammar.specs.declared.quantity.Quantity.TheVariants.{Adi, Pdi, Log}
 use Rattle.xrf_setup.specs.Scenario.{Scen}
 use Rattle.xrf_setup.specs.declared.format.Format.TheVariants.{One}
 use Rattle.xrf_setup.specs.declared.settings.Settings.{Settings}
 use Rattle.xrf_scenario.specs.Settled.{settled}
-use Rattle.xrf_scenario.specs.SoFar.{nothing_given}
+use Rattle.xrf_scenario.specs.SoFar.{nothing_given, with_quantity}
 use Rattle.xrf_drive.specs.declared.scenario.TheConstants.{UNITS}
 
 -- TAKEOVR AUTO, ADI 5, PDI 5 and LOG 1024, and the defaults else
 abbrev pub settings : Settings
-settings = settled One (record nothing_given { takeovr = Some Auto; adi = Some 5; pdi = Some 5; log = Some 1024 })
+settings = settled One (with_quantity (with_quantity (with_quantity (record nothing_given { takeovr = Some Auto }) Adi 5) Pdi 5) Log 1024)
 
 -- the value that a unit of a site puts: a letter, the number of the unit, and the site
 abbrev pub value : List ℕ → Site → ℕ → List ℕ

@@ -17,7 +17,7 @@ use Rattle.xrf_setup.specs.Choices.{HasLine}
 use Rattle.xrf_grammar.specs.Spelling.{choice_text}
 use Rattle.xrf_grammar.specs.Table.{choices_table, parts_of, settings_of}
 use Rattle.xrf_grammar.proofs.ApartLaws.{are_apart, choices-apart, line-again, settings-apart}
-use Rattle.xrf_grammar.proofs.Listed.{in_both}
+use Rattle.xrf_grammar.proofs.Listed.{after_quantities, in_both}
 use Rattle.xrf_grammar.proofs.PlainLaws.{form-plain, form-words}
 use Rattle.xrf_grammar.proofs.WrittenLines.{Written, choosing-written, setting-written}
 
@@ -52,7 +52,7 @@ clt_again format applid kind [] is (inl cancel) = absurd cancel.1
 clt_again format applid kind (name ∷ []) is (inl cancel) =
     line-again (settings_of format) (codes "CLT" ∷ applid ∷ kind ∷ name ∷ []) Clt (settings-apart format) record {
       form = CltCancel;
-      among = in_both format 17 CltCancel refl refl;
+      among = in_both format (after_quantities 6) CltCancel refl refl;
       fit = (refl, (is, (cancel.0, (cancel.1, tt))));
       line = refl;
     }
@@ -61,14 +61,14 @@ clt_again format applid kind [] is (inr any) = absurd (any.1 refl)
 clt_again format applid kind (operand ∷ more) is (inr (inl command, some)) =
     line-again (settings_of format) (codes "CLT" ∷ applid ∷ kind ∷ operand ∷ more) Clt (settings-apart format) record {
       form = CltCommand;
-      among = in_both format 18 CltCommand refl refl;
+      among = in_both format (after_quantities 7) CltCommand refl refl;
       fit = (refl, (is, (command, tt)));
       line = refl;
     }
 clt_again format applid kind (operand ∷ more) is (inr (inr wto, some)) =
     line-again (settings_of format) (codes "CLT" ∷ applid ∷ kind ∷ operand ∷ more) Clt (settings-apart format) record {
       form = CltWto;
-      among = in_both format 19 CltWto refl refl;
+      among = in_both format (after_quantities 8) CltWto refl refl;
       fit = (refl, (is, (wto, tt)));
       line = refl;
     }

@@ -1,11 +1,12 @@
 -- Where the forms stand in the table.
-use Rattle.std.proofs.Common.{◌≡◌, inl, inr, ℕ, zero, suc, Bool, true, false, not, List, [], ◌∷◌, filter, drop, Option, Some, None, refl, ap, subst, sym}
+use Rattle.std.proofs.Common.{◌≡◌, inl, inr, ℕ, zero, suc, Bool, true, false, not, List, [], ◌∷◌, ◌+◌, length, filter, drop, Option, Some, None, refl, ap, subst, sym}
 use Rattle.xrf_grammar.specs.declared.form.ChoiceForm.{ChoiceForm}
 use Rattle.xrf_grammar.specs.declared.form.Form.{Form}
 use Rattle.xrf_grammar.specs.declared.form.Form.TheVariants as form
 use Rattle.xrf_setup.specs.declared.format.Format.{Format}
 use Rattle.xrf_setup.specs.declared.format.Format.TheVariants.{One, Two}
 use Rattle.xrf_grammar.specs.Grammar.{IsAmong}
+use Rattle.xrf_grammar.specs.Quantities.{quantities}
 use Rattle.xrf_grammar.specs.Table.{choice_parts, planned_parts, settings_of_two, is_of_two, settings_of, choices_table}
 use Rattle.xrf_grammar.proofs.PlainLaws.{is_short}
 use Rattle.xrf_grammar.specs.declared.form.ChoiceForm.TheVariants as by
@@ -18,6 +19,10 @@ abbrev pub at_place : ℕ → List Form → Option Form
 at_place place [] = None
 at_place zero (form ∷ forms) = Some form
 at_place (suc place) (form ∷ forms) = at_place place forms
+
+-- the place of a form of the settings that stands so far behind the quantities
+abbrev pub after_quantities : ℕ → ℕ
+after_quantities place = 4 + (length quantities + place)
 
 -- a form that stands at a place is among the forms
 pub listed : (place : ℕ) (forms : List Form) (form : Form) → at_place place forms ≡ Some form → IsAmong form forms
@@ -82,7 +87,7 @@ choice_place (by.Exit answer.Drop) = 28
 -- that both forms are short.
 record IsInTable (f : ChoiceForm) : Type 0 where
   chosen : at_place (choice_place f) choices_table ≡ Some (form.Choice f)
-  planned : at_place (choice_place f) (drop 31 settings_of_two) ≡ Some (form.Plan f)
+  planned : at_place (choice_place f) (drop (after_quantities 20) settings_of_two) ≡ Some (form.Plan f)
   short : is_short (choice_parts f) ≡ true
   short_plan : is_short (planned_parts f) ≡ true
 
@@ -112,7 +117,7 @@ from_back (suc count) (first ∷ forms) form h = inr (from_back count forms form
 
 -- a form behind PLAN is among the settings of XRF 2
 planned-among : (f : ChoiceForm) → IsAmong (form.Plan f) settings_of_two
-planned-among f = from_back 31 settings_of_two (form.Plan f) (listed (choice_place f) (drop 31 settings_of_two) (form.Plan f) (in_table f).planned)
+planned-among f = from_back (after_quantities 20) settings_of_two (form.Plan f) (listed (choice_place f) (drop (after_quantities 20) settings_of_two) (form.Plan f) (in_table f).planned)
 
 -- and among the settings of each format
 pub plan-listed : (format : Format) (f : ChoiceForm) → IsAmong (form.Plan f) (settings_of format)

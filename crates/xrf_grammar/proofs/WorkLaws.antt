@@ -20,7 +20,7 @@ use Rattle.xrf_grammar.specs.Grammar.{IsNumber, Spells, SpellsItem}
 use Rattle.xrf_grammar.specs.Numbers.{number_of}
 use Rattle.xrf_grammar.specs.Operands.{site_of, class_of}
 use Rattle.xrf_grammar.specs.Table.{settings_of}
-use Rattle.xrf_grammar.proofs.Listed.{in_both}
+use Rattle.xrf_grammar.proofs.Listed.{after_quantities, in_both}
 use Rattle.xrf_grammar.proofs.NumberLaws.{number-is}
 
 -- a word that is equal to a keyword
@@ -63,7 +63,7 @@ pub record_spelled : (format : Format) (key number value : List ℕ) (n : ℕ) (
     → Spells (settings_of format) (key ∷ number ∷ value ∷ []) (Record n v)
 record_spelled format key number value n v spelled at low high is = record {
   form = form.Record;
-  among = in_both format 16 form.Record refl refl;
+  among = in_both format (after_quantities 5) form.Record refl refl;
   fit = (spelled, (record { value = n; spelled = at; low = low; high = high; also_kept = refl }, (valued value v is, tt)));
   line = rw (at, is) refl;
 }
@@ -82,25 +82,25 @@ record_read format ws others more number value n v first second none at low high
 -- an item of a unit or a terminal alone
 pub begin_spelled : (format : Format) (key name unit : List ℕ) → key ≡ codes "BEGIN" → name_of name ≡ Some unit → SpellsItem format (key ∷ name ∷ []) (item.Begin unit)
 begin_spelled format key name unit spelled is word site at =
-    record { form = form.Work work.Begin; among = in_both format 20 (form.Work work.Begin) refl refl; fit = (refl, (sited word site at, (spelled, (named name unit is, tt)))); line = rw (at, is) refl }
+    record { form = form.Work work.Begin; among = in_both format (after_quantities 9) (form.Work work.Begin) refl refl; fit = (refl, (sited word site at, (spelled, (named name unit is, tt)))); line = rw (at, is) refl }
 
 pub commit_spelled : (format : Format) (key name unit : List ℕ) → key ≡ codes "COMMIT" → name_of name ≡ Some unit → SpellsItem format (key ∷ name ∷ []) (item.Commit unit)
 commit_spelled format key name unit spelled is word site at =
-    record { form = form.Work work.Commit; among = in_both format 23 (form.Work work.Commit) refl refl; fit = (refl, (sited word site at, (spelled, (named name unit is, tt)))); line = rw (at, is) refl }
+    record { form = form.Work work.Commit; among = in_both format (after_quantities 12) (form.Work work.Commit) refl refl; fit = (refl, (sited word site at, (spelled, (named name unit is, tt)))); line = rw (at, is) refl }
 
 pub roll_spelled : (format : Format) (key name unit : List ℕ) → key ≡ codes "ROLL" → name_of name ≡ Some unit → SpellsItem format (key ∷ name ∷ []) (item.Roll unit)
 roll_spelled format key name unit spelled is word site at =
-    record { form = form.Work work.Roll; among = in_both format 24 (form.Work work.Roll) refl refl; fit = (refl, (sited word site at, (spelled, (named name unit is, tt)))); line = rw (at, is) refl }
+    record { form = form.Work work.Roll; among = in_both format (after_quantities 13) (form.Work work.Roll) refl refl; fit = (refl, (sited word site at, (spelled, (named name unit is, tt)))); line = rw (at, is) refl }
 
 pub logoff_spelled : (format : Format) (key name terminal : List ℕ) → key ≡ codes "LOGOFF" → name_of name ≡ Some terminal → SpellsItem format (key ∷ name ∷ []) (item.Logoff terminal)
 logoff_spelled format key name terminal spelled is word site at =
-    record { form = form.Work work.Logoff; among = in_both format 26 (form.Work work.Logoff) refl refl; fit = (refl, (sited word site at, (spelled, (named name terminal is, tt)))); line = rw (at, is) refl }
+    record { form = form.Work work.Logoff; among = in_both format (after_quantities 15) (form.Work work.Logoff) refl refl; fit = (refl, (sited word site at, (spelled, (named name terminal is, tt)))); line = rw (at, is) refl }
 
 -- an item of a name and a number
 pub get_spelled : (format : Format) (key name number unit : List ℕ) (n : ℕ) → key ≡ codes "GET" → name_of name ≡ Some unit → number_of number ≡ Some n → SpellsItem format (key ∷ name ∷ number ∷ []) (item.Get unit n)
 get_spelled format key name number unit n spelled is num word site at = record {
   form = form.Work work.Get;
-  among = in_both format 22 (form.Work work.Get) refl refl;
+  among = in_both format (after_quantities 11) (form.Work work.Get) refl refl;
   fit = (refl, (sited word site at, (spelled, (named name unit is, (numbered number n num, tt)))));
   line = rw (at, is, num) refl;
 }
@@ -108,7 +108,7 @@ get_spelled format key name number unit n spelled is num word site at = record {
 pub logon_spelled : (format : Format) (key name class terminal : List ℕ) (n : ℕ) → key ≡ codes "LOGON" → name_of name ≡ Some terminal → class_of class ≡ Some n → SpellsItem format (key ∷ name ∷ class ∷ []) (item.Logon terminal n)
 logon_spelled format key name class terminal n spelled is num word site at = record {
   form = form.Work work.Logon;
-  among = in_both format 25 (form.Work work.Logon) refl refl;
+  among = in_both format (after_quantities 14) (form.Work work.Logon) refl refl;
   fit = (refl, (sited word site at, (spelled, (named name terminal is, (classed class n num, tt)))));
   line = rw (at, is, num) refl;
 }
@@ -118,7 +118,7 @@ pub put_spelled : (format : Format) (key name number value unit : List ℕ) (n :
     → SpellsItem format (key ∷ name ∷ number ∷ value ∷ []) (item.Put unit n v)
 put_spelled format key name number value unit n v spelled is num val word site at = record {
   form = form.Work work.Put;
-  among = in_both format 21 (form.Work work.Put) refl refl;
+  among = in_both format (after_quantities 10) (form.Work work.Put) refl refl;
   fit = (refl, (sited word site at, (spelled, (named name unit is, (numbered number n num, (valued value v val, tt))))));
   line = rw (at, is, num, val) refl;
 }
@@ -134,7 +134,7 @@ pub message_read : (format : Format) (ws others behind more : List (List ℕ)) (
 message_read format ws others behind more region kind word first second third named is =
     let all : ws ≡ region ∷ kind ∷ word ∷ more = first ∙ ap (λ (l : List (List ℕ)). region ∷ l) (second ∙ ap (λ (l : List (List ℕ)). kind ∷ l) third) in
     subst (λ (l : List (List ℕ)). Spells (settings_of format) (codes "CLT" ∷ l) Clt) (sym all)
-    (record { form = form.CltWto; among = in_both format 19 form.CltWto refl refl; fit = (refl, (named, (is, tt))); line = refl })
+    (record { form = form.CltWto; among = in_both format (after_quantities 8) form.CltWto refl refl; fit = (refl, (named, (is, tt))); line = refl })
 
 -- the words behind WORK of a put
 pub put_read : (format : Format) (ws w1 w2 w3 w4 more : List (List ℕ)) (word key name number value : List ℕ) (site : Place) (unit : List ℕ) (n : ℕ) (v : List ℕ)

@@ -34,7 +34,7 @@ use Rattle.xrf_grammar.specs.Quantities.{quantity_text, place_of, range_of}
 use Rattle.xrf_grammar.specs.Saying.{item_said, said}
 use Rattle.xrf_grammar.specs.Spelling.{site_word, choice_text, item_text}
 use Rattle.xrf_grammar.specs.Table.{behind_plan, choice_parts, choices_table, is_of_two, parts_of, settings_of, settings_of_two, work_parts}
-use Rattle.xrf_grammar.proofs.Listed.{at_place, listed, in_both, in_two, choice-listed, plan-listed, choice-short, plan-short}
+use Rattle.xrf_grammar.proofs.Listed.{after_quantities, at_place, listed, in_both, in_two, choice-listed, plan-listed, choice-short, plan-short}
 use Rattle.xrf_grammar.proofs.NumberLaws.{number-of-decimal}
 use Rattle.xrf_grammar.proofs.PlainLaws.{is_short}
 use Rattle.xrf_grammar.proofs.QuantityLaws.{is-quantity, quantity-most, quantity-word}
@@ -93,7 +93,7 @@ record ItemWords (site : Site) (i : Item) : Type 0 where
 item-written : (site : Site) (i : Item) → HasItem i → ItemWords site i
 item-written site (item.Begin unit) h = record {
   form = work.Begin;
-  place = 20;
+  place = after_quantities 9;
   stands = refl;
   word = codes "BEGIN";
   more = unit ∷ [];
@@ -105,7 +105,7 @@ item-written site (item.Begin unit) h = record {
 }
 item-written site (item.Put unit number value) h = record {
   form = work.Put;
-  place = 21;
+  place = after_quantities 10;
   stands = refl;
   word = codes "PUT";
   more = unit ∷ decimal number ∷ value ∷ [];
@@ -117,7 +117,7 @@ item-written site (item.Put unit number value) h = record {
 }
 item-written site (item.Get unit number) h = record {
   form = work.Get;
-  place = 22;
+  place = after_quantities 11;
   stands = refl;
   word = codes "GET";
   more = unit ∷ decimal number ∷ [];
@@ -129,7 +129,7 @@ item-written site (item.Get unit number) h = record {
 }
 item-written site (item.Commit unit) h = record {
   form = work.Commit;
-  place = 23;
+  place = after_quantities 12;
   stands = refl;
   word = codes "COMMIT";
   more = unit ∷ [];
@@ -141,7 +141,7 @@ item-written site (item.Commit unit) h = record {
 }
 item-written site (item.Roll unit) h = record {
   form = work.Roll;
-  place = 24;
+  place = after_quantities 13;
   stands = refl;
   word = codes "ROLL";
   more = unit ∷ [];
@@ -153,7 +153,7 @@ item-written site (item.Roll unit) h = record {
 }
 item-written site (item.Logon terminal class) h = record {
   form = work.Logon;
-  place = 25;
+  place = after_quantities 14;
   stands = refl;
   word = codes "LOGON";
   more = terminal ∷ decimal class ∷ [];
@@ -165,7 +165,7 @@ item-written site (item.Logon terminal class) h = record {
 }
 item-written site (item.Logoff terminal) h = record {
   form = work.Logoff;
-  place = 26;
+  place = after_quantities 15;
   stands = refl;
   word = codes "LOGOFF";
   more = terminal ∷ [];
@@ -177,7 +177,7 @@ item-written site (item.Logoff terminal) h = record {
 }
 item-written site (item.Signon terminal user) h = record {
   form = work.Signon;
-  place = 27;
+  place = after_quantities 16;
   stands = refl;
   word = codes "SIGNON";
   more = terminal ∷ user ∷ [];
@@ -189,7 +189,7 @@ item-written site (item.Signon terminal user) h = record {
 }
 item-written site (item.Signoff terminal) h = record {
   form = work.Signoff;
-  place = 28;
+  place = after_quantities 17;
   stands = refl;
   word = codes "SIGNOFF";
   more = terminal ∷ [];
@@ -201,7 +201,7 @@ item-written site (item.Signoff terminal) h = record {
 }
 item-written site item.Shutdown h = record {
   form = work.Shutdown;
-  place = 29;
+  place = after_quantities 18;
   stands = refl;
   word = codes "CEMT";
   more = codes "SHUTDOWN" ∷ [];
@@ -213,7 +213,7 @@ item-written site item.Shutdown h = record {
 }
 item-written site item.ShutdownTakeover h = record {
   form = work.ShutdownTakeover;
-  place = 30;
+  place = after_quantities 19;
   stands = refl;
   word = codes "CEMT";
   more = codes "SHUTDOWN" ∷ codes "TAKEOVER" ∷ [];
@@ -326,7 +326,7 @@ setting-written format (Images true) h = record {
   form = table.Images true;
   ws = codes "IMAGES" ∷ codes "ON" ∷ [];
   joined = refl;
-  among = in_both format 11 (table.Images true) refl refl;
+  among = in_both format (after_quantities 0) (table.Images true) refl refl;
   fit = (refl, (refl, tt));
   says = refl;
   short = refl;
@@ -335,7 +335,7 @@ setting-written format (Images false) h = record {
   form = table.Images false;
   ws = codes "IMAGES" ∷ codes "OFF" ∷ [];
   joined = refl;
-  among = in_both format 12 (table.Images false) refl refl;
+  among = in_both format (after_quantities 1) (table.Images false) refl refl;
   fit = (refl, (refl, tt));
   says = refl;
   short = refl;
@@ -344,7 +344,7 @@ setting-written format (Level site n) h = record {
   form = table.Level;
   ws = codes "LEVEL" ∷ site_word site ∷ decimal n ∷ [];
   joined = refl;
-  among = in_two format 13 table.Level refl h.0;
+  among = in_two format (after_quantities 2) table.Level refl h.0;
   fit = (refl, (site-is site, (number-is 1 2 n h.1 (omega arith), tt)));
   says = rw (site-again site) (rw (number-of-decimal n (in-range 1 2 n h.1 (omega arith))) refl);
   short = refl;
@@ -353,7 +353,7 @@ setting-written format (Xrfsoff true) h = record {
   form = table.Xrfsoff true;
   ws = codes "XRFSOFF" ∷ codes "FORCE" ∷ [];
   joined = refl;
-  among = in_two format 14 (table.Xrfsoff true) refl h;
+  among = in_two format (after_quantities 3) (table.Xrfsoff true) refl h;
   fit = (refl, (refl, tt));
   says = refl;
   short = refl;
@@ -362,7 +362,7 @@ setting-written format (Xrfsoff false) h = record {
   form = table.Xrfsoff false;
   ws = codes "XRFSOFF" ∷ codes "NOFORCE" ∷ [];
   joined = refl;
-  among = in_two format 15 (table.Xrfsoff false) refl h;
+  among = in_two format (after_quantities 4) (table.Xrfsoff false) refl h;
   fit = (refl, (refl, tt));
   says = refl;
   short = refl;
@@ -371,7 +371,7 @@ setting-written format (Record n value) h = record {
   form = table.Record;
   ws = codes "RECORD" ∷ decimal n ∷ value ∷ [];
   joined = ap (λ (t : List ℕ). codes "RECORD " ++ t) (two-parts (decimal n) value);
-  among = in_both format 16 table.Record refl refl;
+  among = in_both format (after_quantities 5) table.Record refl refl;
   fit = (refl, (number-is 1 256 n h.0 (omega arith), (h.1, tt)));
   says = rw (number-of-decimal n (in-range 1 256 n h.0 (omega arith))) (rw (value-again value h.1) refl);
   short = refl;
@@ -382,7 +382,7 @@ setting-written format Choices h = record {
   form = table.Choices;
   ws = codes "CHOICES" ∷ [];
   joined = refl;
-  among = in_both format 60 table.Choices refl refl;
+  among = in_both format (after_quantities 49) table.Choices refl refl;
   fit = (refl, tt);
   says = refl;
   short = refl;

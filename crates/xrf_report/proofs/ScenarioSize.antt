@@ -121,8 +121,8 @@ levels-few : (format : Format) (t : Settings) → length (level_lines format t) 
 levels-few One t = omega arith
 levels-few Two t = omega arith
 
--- The lines of a scenario have at most 466,171 bytes.
-pub scenario-size : (s : Scen) → IsScen s → length (text_of (scenario_lines s)) ≤ 466171
+-- The lines of a scenario have at most 500,000 bytes, with room for more settings.
+pub scenario-size : (s : Scen) → IsScen s → length (text_of (scenario_lines s)) ≤ 500000
 scenario-size s is =
     let settings : List (List ℕ) = map line_text (setting_lines s.settings) in
     let records : List (List ℕ) = record_lines s.records in

@@ -10,7 +10,6 @@ use Rattle.xrf_clt.specs.Lines.{words_kept}
 use Rattle.xrf_text.specs.Text.{words}
 use Rattle.xrf_grammar.specs.Faults.{IsFaultOf, IsFirst}
 use Rattle.xrf_grammar.specs.Grammar.{IsAmong}
-use Rattle.xrf_grammar.specs.Quantities.{place_of}
 use Rattle.xrf_grammar.specs.Places.{first, second, behind}
 use Rattle.xrf_grammar.specs.Reading.{header_of, line_of, are_two}
 use Rattle.xrf_grammar.specs.Reasons.{rank}
@@ -28,7 +27,7 @@ use Rattle.xrf_scenario.specs.Lines.{is_skipped, is_report, bytes_fault}
 use Rattle.xrf_text.specs.Text.{is_printable}
 use Rattle.xrf_scenario.specs.Machine.{take_line, take_header, take_words, step}
 use Rattle.xrf_scenario.specs.Reasons.{header_words, forms_of, has_forms, SpellsNext, is_given, is_over, falls, is_outside, SpellsBad, HoldsOfText, Holds}
-use Rattle.xrf_scenario.specs.SoFar.{SoFar, is_whole, quantity_given}
+use Rattle.xrf_scenario.specs.SoFar.{SoFar, is_whole, quantity_given, with_quantity}
 use Rattle.xrf_scenario.specs.Taking.{once, with_room, free_record, last_tick, numbered, are_within, take}
 use Rattle.xrf_scenario.specs.declared.given.Given.{Given}
 use Rattle.xrf_scenario.specs.declared.section.Section.{Section}
@@ -142,7 +141,7 @@ take-by : (number : ℕ) (so : SoFar) (ws : List (List ℕ)) (l : Line) → (nex
 take-by number so ws (Applid A name) = once-by so.given.applid_a so (record so.given { applid_a = Some name })
 take-by number so ws (Applid B name) = once-by so.given.applid_b so (record so.given { applid_b = Some name })
 take-by number so ws (Takeovr mode) = once-by so.given.takeovr so (record so.given { takeovr = Some mode })
-take-by number so ws (Quantity quantity n) = once-by (quantity_given so.given quantity) so (record so.given { quantities = slice_set so.given.quantities (place_of quantity) (Some n) })
+take-by number so ws (Quantity quantity n) = once-by (quantity_given so.given quantity) so (with_quantity so.given quantity n)
 take-by number so ws (Images on) = once-by so.given.images so (record so.given { images = Some on })
 take-by number so ws (Level A n) = once-by so.given.level_a so (record so.given { level_a = Some n })
 take-by number so ws (Level B n) = once-by so.given.level_b so (record so.given { level_b = Some n })

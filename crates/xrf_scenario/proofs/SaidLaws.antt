@@ -33,7 +33,7 @@ use Rattle.xrf_scenario.specs.Said.{IsLineSaid, is_past, IsGiven, IsFresh, IsSai
 use Rattle.xrf_setup.specs.Scenario.{IsScen, AreRecords, ArePlanned}
 use Rattle.xrf_setup.specs.Commands.{IsKept}
 use Rattle.xrf_scenario.specs.Settled.{by_number, scenario_of}
-use Rattle.xrf_scenario.specs.SoFar.{SoFar, quantity_given, nothing_given, nothing_said, is_whole, file_said}
+use Rattle.xrf_scenario.specs.SoFar.{SoFar, quantity_given, with_quantity, nothing_given, nothing_said, is_whole, file_said}
 use Rattle.xrf_scenario.specs.Taking.{once, with_room, free_record, last_tick, numbered, are_within, has_choice_room, take_setting, take}
 use Rattle.xrf_scenario.specs.declared.given.Given.{Given}
 use Rattle.xrf_scenario.specs.declared.section.Section.{Section}
@@ -149,7 +149,7 @@ held-kept P (y ∷ ys) (suc at) (suc k) x was is = held-kept P ys at k x was (λ
 
 -- each quantity is kept within its range
 quantities-kept : (format : Format) (given : Given) (quantity : Setting) (n : ℕ) → ((other : Setting) → IfSome (quantity_given given other) (λ m. IsSetting format (Quantity other m))) → IsSetting format (Quantity quantity n)
-    → (other : Setting) → IfSome (get_or (slice_set given.quantities (place_of quantity) (Some n)) (place_of other) None) (λ m. IsSetting format (Quantity other m))
+    → (other : Setting) → IfSome (quantity_given (with_quantity given quantity n) other) (λ m. IsSetting format (Quantity other m))
 quantities-kept format given quantity n were is other =
     held-kept (λ m. IsSetting format (Quantity other m)) given.quantities (place_of quantity) (place_of other) (Some n) (were other)
     (λ e. subst (λ (q : Setting). IsSetting format (Quantity q n)) (same-place quantity other e) is)
@@ -159,7 +159,7 @@ setting-taken : (so next : SoFar) (l : Line) → so.section ≡ Settings → IsS
 setting-taken so next (Applid A name) here said is h = subst IsSaid (once-is so.given.applid_a so next (record so.given { applid_a = Some name }) h) (given-said so (record so.given { applid_a = Some name }) here said (record { applid_a = is; applid_b = said.given.applid_b; quantities = said.given.quantities; level_a = said.given.level_a; level_b = said.given.level_b; force = said.given.force }))
 setting-taken so next (Applid B name) here said is h = subst IsSaid (once-is so.given.applid_b so next (record so.given { applid_b = Some name }) h) (given-said so (record so.given { applid_b = Some name }) here said (record { applid_a = said.given.applid_a; applid_b = is; quantities = said.given.quantities; level_a = said.given.level_a; level_b = said.given.level_b; force = said.given.force }))
 setting-taken so next (Quantity quantity n) here said is h =
-    let given : Given = record so.given { quantities = slice_set so.given.quantities (place_of quantity) (Some n) } in
+    let given : Given = with_quantity so.given quantity n in
     subst IsSaid (once-is (quantity_given so.given quantity) so next given h) (given-said so given here said (record { applid_a = said.given.applid_a; applid_b = said.given.applid_b; quantities = quantities-kept so.format so.given quantity n said.given.quantities is; level_a = said.given.level_a; level_b = said.given.level_b; force = said.given.force }))
 setting-taken so next (Level A n) here said is h = subst IsSaid (once-is so.given.level_a so next (record so.given { level_a = Some n }) h) (given-said so (record so.given { level_a = Some n }) here said (record { applid_a = said.given.applid_a; applid_b = said.given.applid_b; quantities = said.given.quantities; level_a = is; level_b = said.given.level_b; force = said.given.force }))
 setting-taken so next (Level B n) here said is h = subst IsSaid (once-is so.given.level_b so next (record so.given { level_b = Some n }) h) (given-said so (record so.given { level_b = Some n }) here said (record { applid_a = said.given.applid_a; applid_b = said.given.applid_b; quantities = said.given.quantities; level_a = said.given.level_a; level_b = is; force = said.given.force }))

@@ -1,5 +1,5 @@
 -- What the lines so far say.
-use Rattle.std.specs.Prelude.{ℕ, Bool, true, false, List, [], get_or, replicate, Option, None, unwrap_or}
+use Rattle.std.specs.Prelude.{ℕ, Bool, true, false, List, [], get_or, slice_set, replicate, Option, Some, None, unwrap_or}
 use Rattle.xrf_base.specs.declared.items.Item.{Item}
 use Rattle.xrf_clt.specs.Kept.{Kept}
 use Rattle.xrf_grammar.specs.Quantities.{place_of, default_of}
@@ -47,6 +47,10 @@ quantity_given given quantity = get_or given.quantities (place_of quantity) None
 
 abbrev pub quantity_or_default : Given → Quantity → ℕ
 quantity_or_default given quantity = unwrap_or (quantity_given given quantity) (default_of quantity)
+
+-- what is given with this number of a quantity
+abbrev pub with_quantity : Given → Quantity → ℕ → Given
+with_quantity given quantity n = record given { quantities = slice_set given.quantities (place_of quantity) (Some n) }
 
 abbrev pub file_of : Given → ℕ
 file_of given = quantity_or_default given File

@@ -5,14 +5,13 @@ use Rattle.xrf_base.specs.declared.items.Item.{Item}
 use Rattle.xrf_base.specs.declared.site.Site.TheVariants.{A, B}
 use Rattle.xrf_clt.specs.Lines.{words_kept}
 use Rattle.xrf_grammar.specs.Places.{behind}
-use Rattle.xrf_grammar.specs.Quantities.{place_of}
 use Rattle.xrf_setup.specs.declared.choice.Choice.{Choice}
 use Rattle.xrf_setup.specs.declared.ranges.TheConstants.{CLT_MOST, ITEMS_MOST, PLAN_MOST, CHOICES_MOST}
 use Rattle.xrf_grammar.specs.declared.line.Line.{Line}
 use Rattle.xrf_grammar.specs.declared.line.Line.TheVariants.{Applid, Takeovr, Quantity, Images, Level, Xrfsoff, Record, Clt, Work, Plan, Choices, Once, Times, End}
 use Rattle.xrf_grammar.specs.declared.reason.Reason.{Reason}
 use Rattle.xrf_grammar.specs.declared.reason.Reason.TheVariants.{PlanOrder, Twice, TooMany, RrnRange}
-use Rattle.xrf_scenario.specs.SoFar.{SoFar, file_said, quantity_given}
+use Rattle.xrf_scenario.specs.SoFar.{SoFar, file_said, quantity_given, with_quantity}
 use Rattle.xrf_scenario.specs.declared.given.Given.{Given}
 use Rattle.xrf_scenario.specs.declared.section.Section.TheVariants.{Making, Whole}
 use Rattle.xrf_scenario.specs.declared.numbered.Numbered.{Numbered}
@@ -72,7 +71,7 @@ abbrev pub take_setting : SoFar → Given → Line → Result SoFar Reason
 take_setting so given (Applid A name) = once given.applid_a so (record given { applid_a = Some name })
 take_setting so given (Applid B name) = once given.applid_b so (record given { applid_b = Some name })
 take_setting so given (Takeovr mode) = once given.takeovr so (record given { takeovr = Some mode })
-take_setting so given (Quantity quantity n) = once (quantity_given given quantity) so (record given { quantities = slice_set given.quantities (place_of quantity) (Some n) })
+take_setting so given (Quantity quantity n) = once (quantity_given given quantity) so (with_quantity given quantity n)
 take_setting so given (Images on) = once given.images so (record given { images = Some on })
 take_setting so given (Level A n) = once given.level_a so (record given { level_a = Some n })
 take_setting so given (Level B n) = once given.level_b so (record given { level_b = Some n })

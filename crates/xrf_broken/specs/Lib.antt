@@ -1,4 +1,5 @@
 pub mod Steps
+pub mod Conduct
 pub mod Owners
 pub mod Hands
 pub mod Restarts
@@ -7,3 +8,10 @@ pub mod Throughs
 pub mod Silence
 pub mod Units
 pub mod Terminals
+pub mod Jobs
+pub mod Lines
+pub mod Rounds
+pub mod Purposes
+pub mod Others
+pub mod Commands
+pub mod Works

@@ -71,3 +71,11 @@ a_get_of_a_value_that_was_not_undone =
     by_a 0 (act.LogOpen 1 (rec.Backout (unit_of 1 1))) ∷
     by_a 0 (act.LogBody 1 (rec.Backout (unit_of 1 1))) ∷
     drop 8 answered
+
+-- the PUT of the second item is taken and nothing is done for it
+abbrev pub a_commit_is_answered_whose_put_was_passed_over : List Entry
+a_commit_is_answered_whose_put_was_passed_over = by_a 0 (act.Item 3) ∷ by_a 0 (act.Item 2) ∷ by_a 0 (act.Item 1) ∷ restarted
+
+-- no unit is in flight
+abbrev pub a_record_is_undone_at_rest : List Entry
+a_record_is_undone_at_rest = by_a 0 (act.Undo 1 (slot_of (Some (codes "OTHER")))) ∷ restarted

@@ -1,4 +1,5 @@
-//! Broken traces of the other files, which break a promise too: each function says of which part its trace is none.
+//! Broken traces of the other files, which break a promise too, or what holds of every run: each function says what is
+//! false of its trace.
 
 ghost use Rattle.xrf_trace.specs.NextIsDue.{NextIsDue};
 ghost use Rattle.xrf_trace.specs.StartsAsWritten.{StartsAsWritten};

@@ -1,9 +1,13 @@
 //! Broken traces on units and items: each function says of which part its trace is none.
 
+ghost use Rattle.xrf_trace.specs.BookAtRest.{BookAtRest};
+ghost use Rattle.xrf_trace.specs.ItemsInOrder.{ItemsInOrder};
 ghost use Rattle.xrf_trace.specs.ItemsSeeBook.{ItemsSeeBook};
 ghost use Rattle.xrf_trace.specs.UnitsAreItems.{UnitsAreItems};
 ghost use Rattle.xrf_examples.specs.OrdinaryUnitOfWork as unit;
 ghost use Rattle.xrf_examples.specs.ItemAnswersOfUnits as two_units;
+ghost use Rattle.xrf_broken.specs.Conduct.{scenario};
+ghost use Rattle.xrf_broken.specs.Others.{AllBut, AtRest, InOrder};
 ghost use Rattle.xrf_broken.specs.Units as broken;
 
 /// A COMMIT is answered at a Backout.
@@ -54,4 +58,16 @@ pub fn a_get_of_a_locked_record()
 /// A GET reads what a unit put that was rolled back.
 pub fn a_get_of_a_value_that_was_not_undone()
     ensures { ItemsSeeBook two_units.scenario broken.a_get_of_a_value_that_was_not_undone → ⊥ }
+{}
+
+/// A COMMIT is answered Done whose PUT was passed over.
+pub fn a_commit_is_answered_whose_put_was_passed_over()
+    ensures refused { ItemsInOrder scenario broken.a_commit_is_answered_whose_put_was_passed_over → ⊥ }
+    ensures others { AllBut InOrder scenario broken.a_commit_is_answered_whose_put_was_passed_over }
+{}
+
+/// A record is undone while no unit is in flight.
+pub fn a_record_is_undone_at_rest()
+    ensures refused { BookAtRest scenario broken.a_record_is_undone_at_rest → ⊥ }
+    ensures others { AllBut AtRest scenario broken.a_record_is_undone_at_rest }
 {}

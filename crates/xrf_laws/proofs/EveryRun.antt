@@ -16,12 +16,20 @@ use Rattle.xrf_owner_law.proofs.ThroughLaw as through
 use Rattle.xrf_owner_law.proofs.SilenceLaw as silent
 use Rattle.xrf_owner_law.proofs.FormatLaw as format
 use Rattle.xrf_owner_law.proofs.KnownLaw as known
-use Rattle.xrf_owner_law.proofs.NextIsDueLaw as due
-use Rattle.xrf_owner_law.proofs.DecisionLaw as decide
 use Rattle.xrf_log_law.proofs.LogLaw as log
 use Rattle.xrf_message_law.proofs.MessageLaw as message
+use Rattle.xrf_conduct_law.proofs.JobsLaw as jobs
+use Rattle.xrf_conduct_law.proofs.ReserveLaw as reserve
+use Rattle.xrf_conduct_law.proofs.PurposeLaw as purpose
+use Rattle.xrf_conduct_law.proofs.LinesLaw as lines
+use Rattle.xrf_conduct_law.proofs.RoundsLaw as rounds
+use Rattle.xrf_conduct_law.proofs.DecidesLaw as decides
+use Rattle.xrf_conduct_law.proofs.StopsLaw as stops
+use Rattle.xrf_conduct_law.proofs.ItemsLaw as items
+use Rattle.xrf_conduct_law.proofs.RestLaw as rest
+use Rattle.xrf_conduct_law.proofs.CutsLaw as cuts
 
--- each part is of the law of the owner, of the log or of the messages
+-- each part is of the law of the owner, of the log, of the messages or of conduct
 pub every-run : RunsAreSafe
 every-run s t scenario is few = (
   record {
@@ -39,8 +47,16 @@ every-run s t scenario is few = (
     units_are_items = log.units-are-items s t scenario is few;
     items_see_book = log.items-see-book s t scenario is few;
     terminals_are_told = message.terminals s t scenario is few;
-    next_is_due = due.next-is-due s t is;
-    starts_as_written = decide.starts-as-written s t is;
+    jobs_act = jobs.jobs-act s t is;
+    reserve_is_held = reserve.reserve-is-held s t is;
+    by_purpose = purpose.by-purpose s t is;
+    lines_as_listed = lines.lines-as-listed s t is;
+    rounds_are_whole = rounds.rounds-are-whole s t is;
+    owners_decide = decides.owners-decide s t is;
+    stops_when_due = stops.stops-when-due s t is;
+    items_in_order = items.items-in-order s t scenario is few;
+    book_at_rest = rest.book-at-rest s t scenario is few;
+    cuts_as_may = cuts.cuts-as-may s t is;
   },
 )
 

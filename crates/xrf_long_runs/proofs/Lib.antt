@@ -7,6 +7,5 @@ pub mod OneOwnerByTests
 pub mod UnitsAreItemsByTests
 pub mod ItemsSeeBookByTests
 pub mod TerminalsAreToldByTests
-pub mod NextIsDueByTests
-pub mod StartsAsWrittenByTests
 pub mod Promised
+pub mod InRanges

@@ -175,21 +175,6 @@ controls a b met =
     (options same_alt alts a.alt b.alt beside.0)
     (options same_taking takings a.taking b.taking beside.1)
 
--- acts of the control data set; of other acts the test is never met
-abbrev pub same_act : Act → Act → Bool
-same_act act.Reserve act.Reserve = true
-same_act act.CtlRead act.CtlRead = true
-same_act (act.CtlWrite a) (act.CtlWrite b) = same_control a b
-same_act act.Release act.Release = true
-same_act _ _ = false
-
-pub acts : IsSameness same_act
-acts act.Reserve act.Reserve met = refl
-acts act.CtlRead act.CtlRead met = refl
-acts (act.CtlWrite a) (act.CtlWrite b) met = ap (λ (r : ControlRecord). act.CtlWrite r) (controls a b met)
-acts act.Release act.Release met = refl
-acts _ _ met = clash (sym met)
-
 -- records of the log
 abbrev pub same_record : LogRec → LogRec → Bool
 same_record (Put unit rrn before) (Put u k slot) = same_unit unit u && (rrn == k && same_bytes before slot)

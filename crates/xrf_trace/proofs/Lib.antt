@@ -14,3 +14,4 @@ pub mod MoveLaws
 pub mod Paths
 pub mod EachJob
 pub mod AtSites
+pub mod StartLaws

@@ -54,6 +54,9 @@ abbrev pub command_act : Scen → Site → Cebt → Option (List Event) → Act
 command_act s x command None = act.NoAct
 command_act s x command (Some h) = act.Cebt command (reply_of s x command h)
 
+-- The entry that an accepted choice adds: the next act for STEP, LOSE and FAIL, and for STOP where it is a write; a
+-- START and a CONFIRM; an ABEND, a REPLY, a CEBT with its reply, an EXIT. A lost signal does not land, and its job does
+-- not know; a failed act tells its job.
 abbrev pub entry : Scen → List Entry → Choice → Entry
 entry s t choice.Tick = record { tick = now t + 1; who = who.Env; inc = 0; act = act.Tick; land = land.Full }
 entry s t (choice.Step x) = entry_at s t x (act_or_none (next_act s t x)) land.Full

@@ -101,6 +101,7 @@ abbrev pub opened : Scen → List Entry → Site → Opened
 opened s [] x = nothing_open
 opened s (e ∷ t) x = elim (is_of e.who x) [ true ↦ opened_after s t x e.act e.land (opened s t x) | false ↦ opened s t x ]
 
+-- what that table goes by at a site, by the trace before the ITEM
 abbrev pub ledger_at : Scen → List Entry → Site → Ledger
 ledger_at s t x = ledger_by s t x (opened s t x)
 

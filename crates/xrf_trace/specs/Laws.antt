@@ -26,6 +26,8 @@ use Rattle.xrf_trace.specs.Each.{Each, After, Where, AtSite}
 use Rattle.xrf_trace.specs.FileIsBook.{IsBook, IsBookAt}
 use Rattle.xrf_trace.specs.OneOwner.{OneOwner, has_active}
 use Rattle.xrf_trace.specs.UnitsAreItems.{UnitsAreItems}
+use Rattle.xrf_trace.specs.StartByCause.{StartByCause}
+use Rattle.xrf_trace.specs.StartsAsWritten.{StartsAsWritten}
 use Rattle.xrf_trace.specs.Safe.{Safe}
 use Rattle.xrf_trace.specs.Promises.{Promises}
 use Rattle.xrf_setup.specs.declared.ranges.TheConstants.{CHOICES_MOST}
@@ -70,7 +72,7 @@ ActsAreAnswered = (s : Scen) (t : List Entry) (x : Site) (h : List Event)
     (handed s t x (now t) h a ≡ event (settings s x) h (answer_of s t x h w))
     × IsTrue (fits (settings s x) h w (answer_of s t x h w)))
 
--- WHAT THE PROMISES COME TO, for every trace that keeps them.
+-- WHAT IS SAFE AND PROMISED COMES TO, for every trace of which it holds.
 -- Of the jobs at the two sites at most one is an active.
 abbrev pub ActivesAreOne : Type 0
 ActivesAreOne = (s : Scen) (t : List Entry) → OneOwner s t → After (λ t. (has_active s t site.A && has_active s t site.B) ≡ false) t
@@ -87,6 +89,11 @@ Grows s t e =
 
 abbrev pub BooksGrow : Type 0
 BooksGrow = (s : Scen) (t : List Entry) → UnitsAreItems s t → Each (Grows s) t
+
+-- Where each DECIDE of a tracking alternate is by the record and its news, each START is by its cause, and where a cause
+-- stands it is a START.
+abbrev pub StartsAreWritten : Type 0
+StartsAreWritten = (s : Scen) (t : List Entry) → StartByCause s t → StartsAsWritten s t
 
 -- THE HEADLINE, stated here and proved above: every run of a scenario is safe and keeps the promises.
 abbrev pub RunsAreSafe : Type 0

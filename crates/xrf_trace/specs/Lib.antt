@@ -31,5 +31,15 @@ pub mod ItemsSeeBook
 pub mod TerminalsAreTold
 pub mod NextIsDue
 pub mod StartsAsWritten
+pub mod JobsAct
+pub mod ReserveIsHeld
+pub mod ByPurpose
+pub mod LinesAsListed
+pub mod RoundsAreWhole
+pub mod OwnersDecide
+pub mod StopsWhenDue
+pub mod ItemsInOrder
+pub mod BookAtRest
+pub mod CutsAsMay
 pub mod Promises
 pub mod Laws

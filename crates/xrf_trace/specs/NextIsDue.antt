@@ -1,6 +1,6 @@
 -- Next is due: after DECIDE START up to the write of the taking, and after DECIDE THROUGH up to the write of the
--- through, the next act is the next of the sequence, and the holder of the reserve has a next act; so no job stands
--- still there but for a stop.
+-- through, the next act is the next of the sequence, and the holder of the reserve has a next act. This is a law of
+-- every run and no part of what is promised: it goes by the next act, and so by the whole step table.
 use Rattle.std.specs.Prelude.{◌≡◌, ℕ, true, ◌&&◌, is_some, List, [], slice_get, Option, Some, None}
 use Rattle.xrf_base.specs.declared.site.Site.{Site}
 use Rattle.xrf_ctl.specs.declared.parts.Cause.{Cause}

@@ -1,6 +1,5 @@
 -- Own hand: nobody changes an owner's state but the owner itself, and nobody's place in the record goes while it may
--- still be at work, but by its own hand or by the drop. A taking goes with its through, or as its alternate leaves that
--- can't read its messages.
+-- still be at work, but by its own hand or by the drop. A taking goes with its through, or by its hand after a failed act.
 use Rattle.std.specs.Prelude.{◌≡◌, ℕ, ◌==◌, Bool, true, false, ◌&&◌, ◌||◌, not, is_some, List, [], ◌∷◌, Option, Some, None}
 use Rattle.xrf_ctl.specs.declared.parts.Owner.{Owner}
 use Rattle.xrf_ctl.specs.declared.parts.OwnerState.{OwnerState}
@@ -65,14 +64,14 @@ AlternateLets t e h (act.CtlWrite written) =
     Where (alternate_goes (control t) written) ((is_own_or_ended t e (inc_of_alt (control t).alt) || is_drop (purpose h)) ≡ true)
 AlternateLets t e h _ = Unit {0}
 
--- an act of it has failed; of an alternate no act can but the read of a message
+-- an act of it has failed, whichever it was
 abbrev pub has_failed : List Event → Bool
 has_failed [] = false
 has_failed (ActFailed tried at ∷ h) = true
 has_failed (_ ∷ h) = has_failed h
 
 -- A write by which the taking goes is made once it is confirmed that its incarnation ended; or it is by its own hand,
--- which goes through, or leaves since it can't read its messages.
+-- which goes through, or has failed an act.
 abbrev pub lets_taking : List Entry → Entry → List Event → (taken : ℕ) → Bool
 lets_taking t e h taken = confirmed t taken || (taken == e.inc && (changes_owner (control t) e.act || has_failed h))
 

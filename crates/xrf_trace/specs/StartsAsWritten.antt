@@ -1,5 +1,5 @@
 -- Starts as written: each START of an alternate that tracks is by its cause, and where a cause stands at its DECIDE
--- it is a START.
+-- it is a START. This follows of every trace whose starts are by their cause.
 use Rattle.std.specs.Prelude.{◌≡◌, List, Some}
 use Rattle.xrf_base.specs.declared.site.Site.{Site}
 use Rattle.xrf_history.specs.Events.{Event}

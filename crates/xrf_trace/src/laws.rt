@@ -1,6 +1,6 @@
 //! Laws of runs.
 
-ghost use Rattle.xrf_trace.specs.Laws.{RunsAreRuns, TicksAreCounted, TickIsAccepted, RefusalsAreFirst, JournalsTell, BooksAreAtEach, ActsAreAnswered, ActivesAreOne, CommittedStay, BooksGrow};
+ghost use Rattle.xrf_trace.specs.Laws.{RunsAreRuns, TicksAreCounted, TickIsAccepted, RefusalsAreFirst, JournalsTell, BooksAreAtEach, ActsAreAnswered, ActivesAreOne, CommittedStay, BooksGrow, StartsAreWritten};
 
 /// The trace that a list of choices comes to is that of a run, with an entry for each choice. The tick of an
 /// entry is the number of ticks up to and with it.
@@ -31,10 +31,11 @@ pub fn acts_are_answered()
     ensures { ActsAreAnswered }
 {}
 
-/// What the promises come to: at most one active at every moment; what is committed stays so, and the book grows by
-/// committed units alone.
+/// What is safe and promised comes to: at most one active at every moment; what is committed stays so, and the book
+/// grows by committed units alone; and each START of an alternate is by its cause, and where a cause stands it is a START.
 pub fn promises_come_to()
     ensures one { ActivesAreOne }
     ensures stay { CommittedStay }
     ensures grow { BooksGrow }
+    ensures starts { StartsAreWritten }
 {}

@@ -1,7 +1,10 @@
 -- What is safe, part by part: each computes to nothing, or to equations whose sides are the same. What is promised, by tests.
-use Rattle.std.proofs.Common.{refl, take, drop}
+use Rattle.std.proofs.Common.{refl, take, drop, ◌≡◌, ◌≤◌, length, Ok, arith}
+use Rattle.xrf_setup.specs.declared.ranges.TheConstants.{CHOICES_MOST, ITEMS_MOST}
 use Rattle.xrf_base.specs.declared.site.Site.TheVariants as site
 use Rattle.xrf_ctl.specs.declared.parts.OwnerState.TheVariants as state
+use Rattle.xrf_trace.specs.Scenario.{IsScen}
+use Rattle.xrf_trace.specs.Runs.{run}
 use Rattle.xrf_trace.specs.OneUpdater.{UpdatesAsOwner, CountsByGrants, GrantsNext, GrantsPlace}
 use Rattle.xrf_trace.specs.OwnHand.{OwnHand}
 use Rattle.xrf_trace.specs.FileIsBook.{FileIsBook}
@@ -11,11 +14,12 @@ use Rattle.xrf_trace.specs.ThroughByProof.{ThroughByProof}
 use Rattle.xrf_trace.specs.FormatByLevel.{MeetsFormat}
 use Rattle.xrf_trace.specs.Each.{Each}
 use Rattle.xrf_examples.specs.Making.{owner_of}
-use Rattle.xrf_long_runs.specs.ATornKeypointBodyThatSpellsANewerKeypoint.{scenario, trace}
+use Rattle.xrf_long_runs.specs.ATornKeypointBodyThatSpellsANewerKeypoint.{scenario, choices, trace}
 use Rattle.xrf_long_runs.proofs.Formats.{AllWriteOne, formats_of_one}
 use Rattle.xrf_long_runs.proofs.Updates.{AllBy, updates_over}
 use Rattle.xrf_long_runs.proofs.Silent.{AllBringNone, silent_throughout}
 use Rattle.xrf_long_runs.proofs.Promised.{Met, promised}
+use Rattle.xrf_long_runs.proofs.InRanges.{within, are_in}
 use Rattle.xrf_long_runs.proofs.runs.a_torn_keypoint_body_that_spells_a_newer_keypoint.Goals as goal
 
 -- the first job from its sign-on to its stop, and the second from its sign-on on
@@ -82,5 +86,37 @@ returns-clause-safe c = record {
 tests_met : Met scenario trace
 tests_met = assumption
 
+in_ranges : IsScen scenario
+in_ranges = record {
+  settings = record {
+    applid_a = refl;
+    applid_b = refl;
+    adi = (omega arith, omega arith);
+    pdi = (omega arith, omega arith);
+    log = (omega arith, omega arith);
+    log_units = refl;
+    ring = (omega arith, omega arith);
+    file = (omega arith, omega arith);
+    pace = (omega arith, omega arith);
+    ticks = (omega arith, omega arith);
+    levels = (refl, refl, refl);
+  };
+  records = tt;
+  clt = tt;
+  clt_few = omega arith;
+  work_a = are_in scenario.work_a refl;
+  work_a_few = within (length scenario.work_a) ITEMS_MOST refl;
+  work_b = tt;
+  work_b_few = omega arith;
+  plan = tt;
+  plan_few = omega arith;
+}
+
+runs : run scenario choices ≡ Ok trace
+runs = assumption
+
+few : length trace ≤ CHOICES_MOST
+few = within (length trace) CHOICES_MOST refl
+
 pub returns-clause-keeps : goal.returns-clause-keeps
-returns-clause-keeps c = promised scenario trace tests_met
+returns-clause-keeps c = promised scenario choices trace in_ranges runs few tests_met

@@ -1,0 +1,2 @@
+pub mod CommandsAreTold
+pub mod WorksAsDue

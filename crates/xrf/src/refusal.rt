@@ -75,7 +75,6 @@ pub fn refusal_text(alloc: Global, number: u32, reason: Reason) -> Result<Vec<u8
 {
     let mut out = Vec::new(alloc);
     put(
-        alloc,
         &mut out,
         &[
             Text(b"XRF REFUSED LINE "),

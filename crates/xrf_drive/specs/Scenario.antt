@@ -38,5 +38,6 @@ unfoldable pub units : Site → ℕ → List Item
 units x zero = []
 units x (suc g) = units x g ++ unit x g
 
+-- the scenario: these settings, no first records, no command list and no plan, and 100 units for each site
 abbrev pub generated : Scen
 generated = record { settings = settings; records = []; clt = []; work_a = units A UNITS; work_b = units B UNITS; plan = [] }

@@ -59,19 +59,12 @@ fn valued(text: &[u8]) -> Value
 }
 
 // the value that the unit of a number of a site puts, by its letter
-fn value(
-    alloc: Global,
-    text: &mut Vec<u8>,
-    letter: &[u8],
-    site: Site,
-    number: u16,
-) -> Result<Value, AllocError>
+fn value(text: &mut Vec<u8>, letter: &[u8], site: Site, number: u16) -> Result<Value, AllocError>
     requires { IsValue (value letter.now site number) }
     ensures { IfOk result (λ found. found ≡ value letter.now site number) }
 {
     text.clear();
     put(
-        alloc,
         text,
         &[Text(letter), Number(number as u64), Text(site_word(site))],
     )?;
@@ -80,7 +73,6 @@ fn value(
 
 #[tactic(auto, using(crate::proofs::ValueLaws::is_put))]
 fn push_unit(
-    alloc: Global,
     work: &mut Vec<Item>,
     text: &mut Vec<u8>,
     site: Site,
@@ -90,8 +82,8 @@ fn push_unit(
     ensures { OnOk result (work.new.items ≡ work.old.items ++ unit site number) }
 {
     let name = named(b"U1");
-    let first = value(alloc, text, b"V", site, number)?;
-    let second = value(alloc, text, b"W", site, number)?;
+    let first = value(text, b"V", site, number)?;
+    let second = value(text, b"W", site, number)?;
     work.push(Item::Begin(name))?;
     work.push(Item::Put(name, 1 + number % 16, first))?;
     work.push(Item::Put(name, 1 + (7 * number + 3) % 16, second))?;
@@ -107,7 +99,7 @@ fn work(alloc: Global, site: Site) -> Result<Vec<Item>, AllocError>
     let mut text = Vec::new(alloc);
     let mut work = Vec::with_capacity(alloc, 4 * UNITS as usize)?;
     for number in 0..UNITS {
-        push_unit(alloc, &mut work, &mut text, site, number)?;
+        push_unit(&mut work, &mut text, site, number)?;
     }
     Ok(work)
 }

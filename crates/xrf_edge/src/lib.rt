@@ -17,7 +17,7 @@ pub use faults::Failed;
 pub use memory::{MemSink, MemSource};
 pub use sink::{Sink, WriteFault, write_all};
 pub use source::{ReadError, Source, read_all};
-pub use standard::{StdSink, StdSource};
+pub use standard::{StdSink, StdSource, TRIES};
 
 #[cfg(test)]
 mod tests;

@@ -1,7 +1,7 @@
 use super::*;
 use std::alloc::{AllocError, Global};
 use std::io;
-use std::io::Write;
+use std::io::{Read, Write};
 use std::test::Fail;
 
 const TEXT: &[u8] = b"XRF 1\nAPPL ACCOUNTS\nEND\n";
@@ -103,5 +103,64 @@ fn a_writer_is_a_sink(rt: HostRuntime) -> Result<(), Fail> {
         let mut sink = StdSink::new(Cramped { room, flushes });
         assert_eq!(rt; write_all(&mut sink, TEXT), outcome, "{room}");
     }
+    Ok(())
+}
+
+/// A reader and writer whose calls are interrupted so many times before they do what they are asked.
+#[derive(Drop)]
+struct Interrupted {
+    times: u32,
+}
+
+impl Interrupted {
+    fn answer(&mut self) -> io::Result<()> {
+        if self.times == 0 {
+            return Ok(());
+        }
+        self.times -= 1;
+        Err(io::Error::from(io::ErrorKind::Interrupted))
+    }
+}
+
+impl Read for Interrupted {
+    fn read(&mut self, buf: &mut [u8]) -> io::Result<usize> {
+        self.answer()?;
+        let _room = buf.len();
+        Ok(0)
+    }
+}
+
+impl Write for Interrupted {
+    fn write(&mut self, buf: &[u8]) -> io::Result<usize> {
+        self.answer()?;
+        Ok(buf.len())
+    }
+
+    fn flush(&mut self) -> io::Result<()> {
+        self.answer()
+    }
+}
+
+#[test]
+fn an_interrupted_call_is_tried_again(rt: HostRuntime) -> Result<(), Fail> {
+    let alloc = rt.alloc();
+    let last = TRIES - 1;
+    let all = read_all(alloc, &mut StdSource::new(Interrupted { times: last }), 100)?;
+    assert!(rt; all.is_empty());
+    let mut sink = StdSink::new(Interrupted { times: last });
+    assert_eq!(rt; write_all(&mut sink, TEXT), Ok(()));
+    Ok(())
+}
+
+#[test]
+fn a_call_that_is_always_interrupted_fails(rt: HostRuntime) -> Result<(), Fail> {
+    let alloc = rt.alloc();
+    let mut source = StdSource::new(Interrupted { times: TRIES });
+    assert_eq!(rt;
+        read_all(alloc, &mut source, 100).err(),
+        Some(ReadError::Fault)
+    );
+    let mut sink = StdSink::new(Interrupted { times: TRIES });
+    assert_eq!(rt; write_all(&mut sink, TEXT), Err(WriteFault));
     Ok(())
 }

@@ -13,6 +13,7 @@ use Rattle.xrf_grammar.specs.Operands.{operand_fault}
 use Rattle.xrf_grammar.specs.Reasons.{earlier}
 use Rattle.xrf_grammar.specs.Table.{parts_of}
 
+-- the word that a part asks for, where it is a keyword
 abbrev pub keyword_of : Part → Option Word
 keyword_of (Keyword keyword reason) = Some keyword
 keyword_of (Refused keyword reason) = Some keyword

@@ -19,6 +19,7 @@ use Rattle.xrf_setup.specs.Items.{IsItemOf}
 use Rattle.xrf_setup.specs.Ranges.{IsIn}
 use Rattle.xrf_setup.specs.declared.ranges.TheConstants.{FILE_LEAST, FILE_MOST, TICKS_MOST}
 
+-- the header of a format
 abbrev pub header_text : Format → List ℕ
 header_text One = codes "XRF 1"
 header_text Two = codes "XRF 2"

@@ -93,6 +93,7 @@ level_said ws = option_and_then (λ s. option_map (line.Level s) (number_of (thi
 abbrev pub record_said : List (List ℕ) → Option Line
 record_said ws = option_and_then (λ number. option_map (line.Record number) (value_of (third ws))) (number_of (second ws))
 
+-- what some words of a form say
 abbrev pub said : Form → List (List ℕ) → Option Line
 said form.Applid ws = applid_said ws
 said (form.Takeovr mode) ws = Some (line.Takeovr mode)

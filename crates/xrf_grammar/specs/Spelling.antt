@@ -27,6 +27,7 @@ piece_text (Text bytes) = bytes.now
 piece_text (Number number) = decimal number
 piece_text (Hex bytes) = hex_text bytes.now
 
+-- the text of pieces, one after the other
 abbrev pub pieces_text : List Piece → List ℕ
 pieces_text pieces = flat_map piece_text pieces
 

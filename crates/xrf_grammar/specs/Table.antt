@@ -84,6 +84,7 @@ work_parts item.Signoff = Key key.Work UnknownWord ∷ Site ∷ Key key.Signoff 
 work_parts item.Shutdown = Key key.Work UnknownWord ∷ Site ∷ Key key.Cemt BadItem ∷ Key key.Shutdown BadOption ∷ []
 work_parts item.ShutdownTakeover = Key key.Work UnknownWord ∷ Site ∷ Key key.Cemt BadItem ∷ Key key.Shutdown BadOption ∷ Key key.Takeover BadOption ∷ []
 
+-- the parts of each form
 abbrev pub parts_of : Form → List Part
 parts_of form.Applid = Key key.Applid UnknownWord ∷ Site ∷ Name ∷ []
 parts_of (form.Takeovr Auto) = Key key.Takeovr UnknownWord ∷ Key key.Auto BadOption ∷ []

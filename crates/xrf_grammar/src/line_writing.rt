@@ -18,7 +18,7 @@ use crate::line::Line;
 use crate::quantity::Quantity;
 use crate::writing::Piece::{Number, Text};
 use crate::writing::{put, put_choice, put_item, put_named, put_of_site, put_text, put_word};
-use std::alloc::{AllocError, Global};
+use std::alloc::AllocError;
 use xrf_base::{Item, Site, Takeovr};
 use xrf_setup::{Choice, Format};
 
@@ -34,110 +34,99 @@ fn mode_word(mode: Takeovr) -> &'static [u8]
 
 // a word with its blank, and a number
 #[inline(always)]
-fn put_setting(alloc: Global, out: &mut Vec<u8>, word: &[u8], number: u16) -> Result<(), AllocError>
+fn put_setting(out: &mut Vec<u8>, word: &[u8], number: u16) -> Result<(), AllocError>
     ensures { OnOk result (out.new.items ≡ out.old.items ++ word.now ++ decimal number) }
 {
-    put(alloc, out, &[Text(word), Number(number as u64)])
+    put(out, &[Text(word), Number(number as u64)])
 }
 
-fn put_quantity(
-    alloc: Global,
-    out: &mut Vec<u8>,
-    quantity: Quantity,
-    number: u16,
-) -> Result<(), AllocError>
+fn put_quantity(out: &mut Vec<u8>, quantity: Quantity, number: u16) -> Result<(), AllocError>
     ensures { OnOk result (out.new.items ≡ out.old.items ++ quantity_text quantity ++ codes " " ++ decimal number) }
 {
     put(
-        alloc,
         out,
         &[Text(quantity.text()), Text(b" "), Number(number as u64)],
     )
 }
 
-fn put_applid(alloc: Global, out: &mut Vec<u8>, site: Site, name: &[u8]) -> Result<(), AllocError>
+fn put_applid(out: &mut Vec<u8>, site: Site, name: &[u8]) -> Result<(), AllocError>
     ensures { OnOk result (out.new.items ≡ out.old.items ++ site_text (codes "APPLID") site (codes " " ++ name.now)) }
 {
-    put_of_site(alloc, out, b"APPLID", site, b" ")?;
+    put_of_site(out, b"APPLID", site, b" ")?;
     put_text(out, name)
 }
 
-fn put_level(alloc: Global, out: &mut Vec<u8>, site: Site, level: u16) -> Result<(), AllocError>
+fn put_level(out: &mut Vec<u8>, site: Site, level: u16) -> Result<(), AllocError>
     ensures { OnOk result (out.new.items ≡ out.old.items ++ site_text (codes "LEVEL") site (codes " " ++ decimal level)) }
 {
-    put_of_site(alloc, out, b"LEVEL", site, b"")?;
-    put_setting(alloc, out, b" ", level)
+    put_of_site(out, b"LEVEL", site, b"")?;
+    put_setting(out, b" ", level)
 }
 
-fn put_record(alloc: Global, out: &mut Vec<u8>, number: u16, value: &[u8]) -> Result<(), AllocError>
+fn put_record(out: &mut Vec<u8>, number: u16, value: &[u8]) -> Result<(), AllocError>
     ensures { OnOk result (out.new.items ≡ out.old.items ++ codes "RECORD " ++ decimal number ++ codes " " ++ value.now) }
 {
-    put_setting(alloc, out, b"RECORD ", number)?;
+    put_setting(out, b"RECORD ", number)?;
     put_word(out, value)
 }
 
-fn put_work(alloc: Global, out: &mut Vec<u8>, site: Site, item: &Item) -> Result<(), AllocError>
+fn put_work(out: &mut Vec<u8>, site: Site, item: &Item) -> Result<(), AllocError>
     ensures { OnOk result (out.new.items ≡ out.old.items ++ work_text site item.now) }
 {
     match site {
         Site::A => put_text(out, b"WORK A ")?,
         Site::B => put_text(out, b"WORK B ")?,
     }
-    put_item(alloc, out, item)
+    put_item(out, item)
 }
 
-fn put_plan(alloc: Global, out: &mut Vec<u8>, tick: u16, choice: &Choice) -> Result<(), AllocError>
+fn put_plan(out: &mut Vec<u8>, tick: u16, choice: &Choice) -> Result<(), AllocError>
     ensures { OnOk result (out.new.items ≡ out.old.items ++ codes "PLAN " ++ decimal tick ++ codes " " ++ choice_text choice.now) }
 {
-    put_setting(alloc, out, b"PLAN ", tick)?;
+    put_setting(out, b"PLAN ", tick)?;
     put_text(out, b" ")?;
-    put_choice(alloc, out, choice)
+    put_choice(out, choice)
 }
 
-fn put_times(
-    alloc: Global,
-    out: &mut Vec<u8>,
-    choice: &Choice,
-    count: u16,
-) -> Result<(), AllocError>
+fn put_times(out: &mut Vec<u8>, choice: &Choice, count: u16) -> Result<(), AllocError>
     ensures { OnOk result (out.new.items ≡ out.old.items ++ choice_text choice.now ++ codes " " ++ decimal count) }
 {
-    put_choice(alloc, out, choice)?;
-    put_setting(alloc, out, b" ", count)
+    put_choice(out, choice)?;
+    put_setting(out, b" ", count)
 }
 
 /// Appends a line as its words spell it, without a line feed. What a line of the command list says
 /// is not in the line, so of such a line the first word is written.
-pub fn put_line(alloc: Global, out: &mut Vec<u8>, line: &Line) -> Result<(), AllocError>
+pub fn put_line(out: &mut Vec<u8>, line: &Line) -> Result<(), AllocError>
     ensures { OnOk result (out.new.items ≡ out.old.items ++ line_text line.now) }
 {
     match line {
-        Line::Applid(site, name) => put_applid(alloc, out, *site, name.text()),
-        Line::Takeovr(mode) => put_named(alloc, out, b"TAKEOVR ", mode_word(*mode)),
-        Line::Quantity(quantity, number) => put_quantity(alloc, out, *quantity, *number),
+        Line::Applid(site, name) => put_applid(out, *site, name.text()),
+        Line::Takeovr(mode) => put_named(out, b"TAKEOVR ", mode_word(*mode)),
+        Line::Quantity(quantity, number) => put_quantity(out, *quantity, *number),
         Line::Images(true) => put_text(out, b"IMAGES ON"),
         Line::Images(false) => put_text(out, b"IMAGES OFF"),
-        Line::Level(site, level) => put_level(alloc, out, *site, *level),
+        Line::Level(site, level) => put_level(out, *site, *level),
         Line::Xrfsoff(true) => put_text(out, b"XRFSOFF FORCE"),
         Line::Xrfsoff(false) => put_text(out, b"XRFSOFF NOFORCE"),
-        Line::Record(number, value) => put_record(alloc, out, *number, value.text()),
+        Line::Record(number, value) => put_record(out, *number, value.text()),
         Line::Clt => put_text(out, b"CLT"),
-        Line::Work(site, item) => put_work(alloc, out, *site, item),
-        Line::Plan(tick, choice) => put_plan(alloc, out, *tick, choice),
+        Line::Work(site, item) => put_work(out, *site, item),
+        Line::Plan(tick, choice) => put_plan(out, *tick, choice),
         Line::Choices => put_text(out, b"CHOICES"),
-        Line::Once(choice) => put_choice(alloc, out, choice),
-        Line::Times(choice, count) => put_times(alloc, out, choice, *count),
+        Line::Once(choice) => put_choice(out, choice),
+        Line::Times(choice, count) => put_times(out, choice, *count),
         Line::End => put_text(out, b"END"),
     }
 }
 
 /// Appends the header of a format, without a line feed.
-pub fn put_header(alloc: Global, out: &mut Vec<u8>, format: Format) -> Result<(), AllocError>
+pub fn put_header(out: &mut Vec<u8>, format: Format) -> Result<(), AllocError>
     ensures { OnOk result (out.new.items ≡ out.old.items ++ header_text format) }
 {
     match format {
-        Format::One => put(alloc, out, &[Text(b"XRF 1")]),
-        Format::Two => put(alloc, out, &[Text(b"XRF 2")]),
+        Format::One => put(out, &[Text(b"XRF 1")]),
+        Format::Two => put(out, &[Text(b"XRF 2")]),
     }
 }
 

@@ -381,7 +381,7 @@ fn choices_are_written_as_they_are_read(rt: HostRuntime) -> Result<(), Fail> {
             panic!(rt; "no choice");
         };
         let mut out = Vec::new(rt.alloc());
-        put_choice(rt.alloc(), &mut out, &choice)?;
+        put_choice(&mut out, &choice)?;
         assert_eq!(rt; out.as_slice(), line);
     }
     Ok(())
@@ -410,7 +410,7 @@ fn items_are_written_as_they_are_read(rt: HostRuntime) -> Result<(), Fail> {
             panic!(rt; "no item");
         };
         let mut out = Vec::new(rt.alloc());
-        put_item(rt.alloc(), &mut out, &item)?;
+        put_item(&mut out, &item)?;
         assert_eq!(rt; out.as_slice(), text);
     }
     Ok(())
@@ -449,7 +449,7 @@ fn settings_are_written_as_they_are_read(rt: HostRuntime) -> Result<(), Fail> {
             panic!(rt; "no setting");
         };
         let mut out = Vec::new(rt.alloc());
-        put_line(rt.alloc(), &mut out, &line)?;
+        put_line(&mut out, &line)?;
         assert_eq!(rt; out.as_slice(), text);
     }
     Ok(())
@@ -469,7 +469,7 @@ fn lines_of_choices_are_written_with_one_blank_between_words(rt: HostRuntime) ->
             panic!(rt; "no line");
         };
         let mut out = Vec::new(rt.alloc());
-        put_line(rt.alloc(), &mut out, &line)?;
+        put_line(&mut out, &line)?;
         assert_eq!(rt; out.as_slice(), want);
     }
     Ok(())
@@ -479,7 +479,7 @@ fn lines_of_choices_are_written_with_one_blank_between_words(rt: HostRuntime) ->
 fn headers_are_written_as_they_are_read(rt: HostRuntime) -> Result<(), Fail> {
     for format in [Format::One, Format::Two] {
         let mut out = Vec::new(rt.alloc());
-        put_header(rt.alloc(), &mut out, format)?;
+        put_header(&mut out, format)?;
         assert_eq!(rt; read_header(out.as_slice()), Ok(format));
     }
     Ok(())

@@ -6,7 +6,7 @@ ghost use Rattle.xrf_cebt.specs.Command.{command_text};
 ghost use Rattle.xrf_grammar.specs.Spelling.{hex_digit, hex_text, piece_text, pieces_text, site_text, site_word, answer_word, landed_text, go_text, choice_text, item_text};
 
 use Piece::{Hex, Number, Text};
-use std::alloc::{AllocError, Global};
+use std::alloc::AllocError;
 use xrf_base::{Item, Site};
 use xrf_cebt::Cebt;
 use xrf_exit::ExitAnswer;
@@ -163,7 +163,7 @@ fn put_many(out: &mut Vec<u8>, pieces: &[Piece]) -> Result<(), AllocError>
 /// Appends the pieces to a text. The first six are written in a row with no loop: where a call is
 /// inlined, each is then a few moves of known lengths.
 #[inline(always)]
-pub fn put(alloc: Global, out: &mut Vec<u8>, pieces: &[Piece]) -> Result<(), AllocError>
+pub fn put(out: &mut Vec<u8>, pieces: &[Piece]) -> Result<(), AllocError>
     ensures { OnOk result (out.new.items ≡ out.old.items ++ pieces_text pieces.now) }
 {
     let [first, more @ ..] = pieces else {
@@ -226,7 +226,6 @@ fn behind_blank(site: Site) -> &'static [u8]
 // a word, a site and what stands behind it
 #[inline(always)]
 pub(crate) fn put_of_site<'a>(
-    alloc: Global,
     out: &mut Vec<u8>,
     word: &'a [u8],
     site: Site,
@@ -234,11 +233,7 @@ pub(crate) fn put_of_site<'a>(
 ) -> Result<(), AllocError>
     ensures { OnOk result (out.new.items ≡ out.old.items ++ site_text word.now site behind.now) }
 {
-    put(
-        alloc,
-        out,
-        &[Text(word), Text(behind_blank(site)), Text(behind)],
-    )
+    put(out, &[Text(word), Text(behind_blank(site)), Text(behind)])
 }
 
 // most choices are steps
@@ -252,7 +247,6 @@ fn put_step(out: &mut Vec<u8>, site: Site) -> Result<(), AllocError>
 }
 
 fn put_landed(
-    alloc: Global,
     out: &mut Vec<u8>,
     word: &[u8],
     site: Site,
@@ -261,85 +255,74 @@ fn put_landed(
     ensures { OnOk result (out.new.items ≡ out.old.items ++ landed_text word.now site landing.now) }
 {
     match landing {
-        Landing::Nothing => put_of_site(alloc, out, word, site, b" NONE"),
-        Landing::All => put_of_site(alloc, out, word, site, b" ALL"),
+        Landing::Nothing => put_of_site(out, word, site, b" NONE"),
+        Landing::All => put_of_site(out, word, site, b" ALL"),
         Landing::Torn(torn) => {
-            put_of_site(alloc, out, word, site, b" TORN ")?;
+            put_of_site(out, word, site, b" TORN ")?;
             put_hex(out, torn.bytes())
         }
     }
 }
 
-fn put_command(
-    alloc: Global,
-    out: &mut Vec<u8>,
-    site: Site,
-    command: Cebt,
-) -> Result<(), AllocError>
+fn put_command(out: &mut Vec<u8>, site: Site, command: Cebt) -> Result<(), AllocError>
     ensures { OnOk result (out.new.items ≡ out.old.items ++ site_text (codes "CEBT") site (codes " " ++ command_text command)) }
 {
-    put_of_site(alloc, out, b"CEBT", site, b" ")?;
+    put_of_site(out, b"CEBT", site, b" ")?;
     put_text(out, command.text())
 }
 
-fn put_exit(
-    alloc: Global,
-    out: &mut Vec<u8>,
-    site: Site,
-    answer: ExitAnswer,
-) -> Result<(), AllocError>
+fn put_exit(out: &mut Vec<u8>, site: Site, answer: ExitAnswer) -> Result<(), AllocError>
     ensures { OnOk result (out.new.items ≡ out.old.items ++ site_text (codes "EXIT") site (codes " " ++ answer_word answer)) }
 {
-    put_of_site(alloc, out, b"EXIT", site, b" ")?;
+    put_of_site(out, b"EXIT", site, b" ")?;
     put_text(out, answer_word(answer))
 }
 
-fn put_number_choice(alloc: Global, out: &mut Vec<u8>, number: u32) -> Result<(), AllocError>
+fn put_number_choice(out: &mut Vec<u8>, number: u32) -> Result<(), AllocError>
     ensures { OnOk result (out.new.items ≡ out.old.items ++ codes "CONFIRM " ++ decimal number) }
 {
-    put(alloc, out, &[Text(b"CONFIRM "), Number(number as u64)])
+    put(out, &[Text(b"CONFIRM "), Number(number as u64)])
 }
 
-fn put_reply(alloc: Global, out: &mut Vec<u8>, site: Site, go: bool) -> Result<(), AllocError>
+fn put_reply(out: &mut Vec<u8>, site: Site, go: bool) -> Result<(), AllocError>
     ensures { OnOk result (out.new.items ≡ out.old.items ++ go_text site go) }
 {
     if go {
-        put_of_site(alloc, out, b"REPLY", site, b" GO")
+        put_of_site(out, b"REPLY", site, b" GO")
     } else {
-        put_of_site(alloc, out, b"REPLY", site, b" IGNORE")
+        put_of_site(out, b"REPLY", site, b" IGNORE")
     }
 }
 
 /// Appends a choice as its line spells it, without a count and without a line feed.
-pub fn put_choice(alloc: Global, out: &mut Vec<u8>, choice: &Choice) -> Result<(), AllocError>
+pub fn put_choice(out: &mut Vec<u8>, choice: &Choice) -> Result<(), AllocError>
     ensures { OnOk result (out.new.items ≡ out.old.items ++ choice_text choice.now) }
 {
     match choice {
         Choice::Tick => put_text(out, b"TICK"),
         Choice::Step(site) => put_step(out, *site),
-        Choice::Lose(site) => put_of_site(alloc, out, b"LOSE", *site, b""),
-        Choice::Stop(site, landing) => put_landed(alloc, out, b"STOP", *site, landing),
-        Choice::Fail(site, landing) => put_landed(alloc, out, b"FAIL", *site, landing),
-        Choice::StartActive(site) => put_of_site(alloc, out, b"START", *site, b" ACTIVE"),
-        Choice::StartStandby(site) => put_of_site(alloc, out, b"START", *site, b" STANDBY"),
-        Choice::Abend(site) => put_of_site(alloc, out, b"ABEND", *site, b""),
-        Choice::Confirm(number) => put_number_choice(alloc, out, *number),
-        Choice::Reply(site, go) => put_reply(alloc, out, *site, *go),
-        Choice::Cebt(site, command) => put_command(alloc, out, *site, *command),
-        Choice::Exit(site, answer) => put_exit(alloc, out, *site, *answer),
+        Choice::Lose(site) => put_of_site(out, b"LOSE", *site, b""),
+        Choice::Stop(site, landing) => put_landed(out, b"STOP", *site, landing),
+        Choice::Fail(site, landing) => put_landed(out, b"FAIL", *site, landing),
+        Choice::StartActive(site) => put_of_site(out, b"START", *site, b" ACTIVE"),
+        Choice::StartStandby(site) => put_of_site(out, b"START", *site, b" STANDBY"),
+        Choice::Abend(site) => put_of_site(out, b"ABEND", *site, b""),
+        Choice::Confirm(number) => put_number_choice(out, *number),
+        Choice::Reply(site, go) => put_reply(out, *site, *go),
+        Choice::Cebt(site, command) => put_command(out, *site, *command),
+        Choice::Exit(site, answer) => put_exit(out, *site, *answer),
     }
 }
 
 #[inline(always)]
 pub(crate) fn put_named<'a>(
-    alloc: Global,
     out: &mut Vec<u8>,
     word: &'a [u8],
     name: &'a [u8],
 ) -> Result<(), AllocError>
     ensures { OnOk result (out.new.items ≡ out.old.items ++ word.now ++ name.now) }
 {
-    put(alloc, out, &[Text(word), Text(name)])
+    put(out, &[Text(word), Text(name)])
 }
 
 // a word behind a blank
@@ -352,7 +335,6 @@ pub(crate) fn put_word(out: &mut Vec<u8>, word: &[u8]) -> Result<(), AllocError>
 }
 
 fn put_numbered<'a>(
-    alloc: Global,
     out: &mut Vec<u8>,
     word: &'a [u8],
     name: &'a [u8],
@@ -361,35 +343,34 @@ fn put_numbered<'a>(
     ensures { OnOk result (out.new.items ≡ out.old.items ++ word.now ++ name.now ++ codes " " ++ decimal number) }
 {
     put(
-        alloc,
         out,
         &[Text(word), Text(name), Text(b" "), Number(number as u64)],
     )
 }
 
 /// Appends a work item as its line spells it, from the word of the item on.
-pub fn put_item(alloc: Global, out: &mut Vec<u8>, item: &Item) -> Result<(), AllocError>
+pub fn put_item(out: &mut Vec<u8>, item: &Item) -> Result<(), AllocError>
     ensures { OnOk result (out.new.items ≡ out.old.items ++ item_text item.now) }
 {
     match item {
-        Item::Begin(unit) => put_named(alloc, out, b"BEGIN ", unit.text()),
+        Item::Begin(unit) => put_named(out, b"BEGIN ", unit.text()),
         Item::Put(unit, number, value) => {
-            put_numbered(alloc, out, b"PUT ", unit.text(), *number)?;
+            put_numbered(out, b"PUT ", unit.text(), *number)?;
             put_word(out, value.text())
         }
-        Item::Get(unit, number) => put_numbered(alloc, out, b"GET ", unit.text(), *number),
-        Item::Commit(unit) => put_named(alloc, out, b"COMMIT ", unit.text()),
-        Item::Roll(unit) => put_named(alloc, out, b"ROLL ", unit.text()),
+        Item::Get(unit, number) => put_numbered(out, b"GET ", unit.text(), *number),
+        Item::Commit(unit) => put_named(out, b"COMMIT ", unit.text()),
+        Item::Roll(unit) => put_named(out, b"ROLL ", unit.text()),
         Item::Logon(terminal, class) => {
-            put_numbered(alloc, out, b"LOGON ", terminal.text(), *class as u16)
+            put_numbered(out, b"LOGON ", terminal.text(), *class as u16)
         }
-        Item::Logoff(terminal) => put_named(alloc, out, b"LOGOFF ", terminal.text()),
+        Item::Logoff(terminal) => put_named(out, b"LOGOFF ", terminal.text()),
         Item::Shutdown => put_text(out, b"CEMT SHUTDOWN"),
         Item::ShutdownTakeover => put_text(out, b"CEMT SHUTDOWN TAKEOVER"),
         Item::Signon(terminal, user) => {
-            put_named(alloc, out, b"SIGNON ", terminal.text())?;
+            put_named(out, b"SIGNON ", terminal.text())?;
             put_word(out, user.text())
         }
-        Item::Signoff(terminal) => put_named(alloc, out, b"SIGNOFF ", terminal.text()),
+        Item::Signoff(terminal) => put_named(out, b"SIGNOFF ", terminal.text()),
     }
 }

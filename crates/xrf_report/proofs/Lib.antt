@@ -10,3 +10,4 @@ pub mod StandingLaws
 pub mod ImagesTold
 pub mod ReportLaws
 pub mod DocumentLaws
+pub mod Picking

@@ -13,6 +13,7 @@ abbrev pub document_of : Scen → List Choice → Result (List Entry) Refusal �
 document_of s choices (Ok t) = canon s choices ++ report s t
 document_of s choices (Err refusal) = []
 
+-- the document of a scenario and its choices: the canonical text, and the report of their run
 abbrev pub doc : Scen → List Choice → List ℕ
 doc s choices = document_of s choices (run s choices)
 

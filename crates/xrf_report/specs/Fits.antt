@@ -97,6 +97,8 @@ ActFits (act.Clt number) = Is32 number
 ActFits (act.Ended reason) = EndingFits reason
 ActFits _ = Unit {0}
 
+-- An entry, an answer and a row: their numbers have 32 bits, the counter of a signal 64; names are names and values are
+-- values; and a control record keeps its rule.
 abbrev pub EntryFits : Entry → Type 0
 EntryFits e = Is32 e.tick × Is32 e.inc × ActFits e.act
 

@@ -19,6 +19,7 @@ place_text epoch seq = decimal epoch ++ blank (decimal seq)
 abbrev pub terminal_text : (epoch seq : ℕ) → List ℕ → ℕ → Bool → List ℕ
 terminal_text epoch seq term class on = place_text epoch seq ++ blank term ++ blank (decimal class) ++ blank (switch_word on)
 
+-- a message: its kind, its epoch, but for Begin its number, and behind them what it tells of a terminal
 abbrev pub message_text : Message → List ℕ
 message_text (Begin epoch) = codes "BEGIN " ++ decimal epoch
 message_text (Term epoch seq term class on) = codes "TERM " ++ terminal_text epoch seq term class on

@@ -45,6 +45,7 @@ abbrev pub images_if : Bool → Scen → List Entry → List ℕ
 images_if true s t = images_text s t
 images_if false s t = []
 
+-- the acts, the items of A and of B, what stands in the end, the records of the file, the data sets, and the last line
 abbrev pub report : Scen → List Entry → List ℕ
 report s t =
     acts_text s 1 (reverse t)

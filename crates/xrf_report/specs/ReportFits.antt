@@ -46,6 +46,7 @@ TableFits table = IfSome table (λ (rows : List Row). AllByRecursion RowFits row
 abbrev pub CountsFit : LogCounts → Type 0
 CountsFit c = Is32 c.records × Is32 c.committed × Is32 c.flight
 
+-- what stands in the end: the numbers of its lines, and the rows of both tables
 pub record StandingFits (s : Scen) (t : List Entry) : Type 0 where
   pub tick : Is32 (now t)
   pub control : IsControl (control t)

@@ -10,7 +10,7 @@ ghost use Rattle.xrf_report.specs.Records.{control_text};
 ghost use Rattle.xrf_report.specs.Messages.{message_text};
 ghost use Rattle.xrf_report.specs.Logged.{unit_text, log_text, keypoint_text};
 ghost use Rattle.xrf_report.specs.Decisions.{decided_text, ending_text};
-ghost use Rattle.xrf_report.specs.Acts.{go_word, signal_text, clt_at, clt_text, act_text};
+ghost use Rattle.xrf_report.specs.Acts.{go_word, signal_text, clt_text, act_text};
 ghost use Rattle.xrf_base.specs.Values.{IsValue};
 ghost use Rattle.xrf_ctl.specs.Control.{IsControl};
 ghost use Rattle.xrf_report.specs.Fits.{Is32, SignalFits, MessageFits, UnitFits, LogFits, KeypointFits, DecidedFits, EndingFits, ActFits};
@@ -18,10 +18,11 @@ ghost use Rattle.xrf_report.specs.Fits.{Is32, SignalFits, MessageFits, UnitFits,
 use crate::decisions::{put_decided, put_ending};
 use crate::logged::{put_keypoint, put_record, put_unit};
 use crate::messages::put_message;
+use crate::picked::Picked;
 use crate::records::put_control;
 use crate::words::{counter, digits, put_both, put_numbered, put_word};
 use Piece::Text;
-use std::alloc::{AllocError, Global};
+use std::alloc::AllocError;
 use xrf_base::{Site, UnitId, Value};
 use xrf_cavm::Decided;
 use xrf_cebt::{Cebt, CebtReply};
@@ -31,7 +32,6 @@ use xrf_grammar::writing::{Piece, put};
 use xrf_history::EndWhy;
 use xrf_logrec::{Keypoint, LogRec};
 use xrf_msg::Message;
-use xrf_setup::Scenario;
 use xrf_trace::{Act, Who};
 
 fn answer_word(answer: ExitAnswer) -> &'static [u8]
@@ -50,16 +50,10 @@ fn go_word(go: bool) -> &'static [u8]
     if go { b"GO" } else { b"IGNORE" }
 }
 
-fn put_reply(
-    alloc: Global,
-    out: &mut Vec<u8>,
-    command: Cebt,
-    reply: CebtReply,
-) -> Result<(), AllocError>
+fn put_reply(out: &mut Vec<u8>, command: Cebt, reply: CebtReply) -> Result<(), AllocError>
     ensures { OnOk result (out.new.items ≡ out.old.items ++ codes "CEBT " ++ command_text command ++ codes " = " ++ reply_text reply) }
 {
     put(
-        alloc,
         out,
         &[
             Text(b"CEBT "),
@@ -70,30 +64,19 @@ fn put_reply(
     )
 }
 
-fn put_write(
-    alloc: Global,
-    out: &mut Vec<u8>,
-    scenario: &Scenario,
-    control: &Control,
-) -> Result<(), AllocError>
+fn put_write(out: &mut Vec<u8>, scenario: &Picked, control: &Control) -> Result<(), AllocError>
     ensures text { OnOk result (out.new.items ≡ out.old.items ++ codes "CTLWRITE " ++ control_text scenario.now.settings.format control.now) }
     ensures fits { OnOk result (IsControl control.now) }
 {
     put_word(out, b"CTLWRITE ")?;
-    put_control(alloc, out, scenario.format(), control)
+    put_control(out, scenario.format(), control)
 }
 
-fn put_signal(
-    alloc: Global,
-    out: &mut Vec<u8>,
-    word: &[u8],
-    signal: &Signal,
-) -> Result<(), AllocError>
+fn put_signal(out: &mut Vec<u8>, word: &[u8], signal: &Signal) -> Result<(), AllocError>
     ensures text { OnOk result (out.new.items ≡ out.old.items ++ word.now ++ signal_text signal.now) }
     ensures fits { OnOk result (SignalFits signal.now) }
 {
     put(
-        alloc,
         out,
         &[
             Text(word),
@@ -104,47 +87,34 @@ fn put_signal(
     )
 }
 
-fn put_decide(alloc: Global, out: &mut Vec<u8>, decided: Decided) -> Result<(), AllocError>
+fn put_decide(out: &mut Vec<u8>, decided: Decided) -> Result<(), AllocError>
     ensures text { OnOk result (out.new.items ≡ out.old.items ++ codes "DECIDE " ++ decided_text decided) }
     ensures fits { OnOk result (DecidedFits decided) }
 {
     put_word(out, b"DECIDE ")?;
-    put_decided(alloc, out, decided)
+    put_decided(out, decided)
 }
 
 // a word, the number of a slot, and behind a blank a message
-fn put_sent(
-    alloc: Global,
-    out: &mut Vec<u8>,
-    word: &[u8],
-    slot: u32,
-    message: &Message,
-) -> Result<(), AllocError>
+fn put_sent(out: &mut Vec<u8>, word: &[u8], slot: u32, message: &Message) -> Result<(), AllocError>
     ensures text { OnOk result (out.new.items ≡ out.old.items ++ word.now ++ decimal slot ++ blank (message_text message.now)) }
     ensures fits { OnOk result (Is32 slot × MessageFits message.now) }
 {
-    put(alloc, out, &[Text(word), digits(slot), Text(b" ")])?;
-    put_message(alloc, out, message)
+    put(out, &[Text(word), digits(slot), Text(b" ")])?;
+    put_message(out, message)
 }
 
 // a word, the number of a log record, and behind a blank the record
-fn put_logged(
-    alloc: Global,
-    out: &mut Vec<u8>,
-    word: &[u8],
-    place: u32,
-    rec: &LogRec,
-) -> Result<(), AllocError>
+fn put_logged(out: &mut Vec<u8>, word: &[u8], place: u32, rec: &LogRec) -> Result<(), AllocError>
     ensures text { OnOk result (out.new.items ≡ out.old.items ++ word.now ++ decimal place ++ blank (log_text rec.now)) }
     ensures fits { OnOk result (Is32 place × LogFits rec.now) }
 {
-    put(alloc, out, &[Text(word), digits(place), Text(b" ")])?;
-    put_record(alloc, out, rec)
+    put(out, &[Text(word), digits(place), Text(b" ")])?;
+    put_record(out, rec)
 }
 
 // a word, the number of a slot, and behind a blank a keypoint
 fn put_keyed(
-    alloc: Global,
     out: &mut Vec<u8>,
     word: &[u8],
     slot: u8,
@@ -153,12 +123,11 @@ fn put_keyed(
     ensures text { OnOk result (out.new.items ≡ out.old.items ++ word.now ++ decimal slot ++ blank (keypoint_text keypoint.now)) }
     ensures fits { OnOk result (Is32 slot × KeypointFits keypoint.now) }
 {
-    put(alloc, out, &[Text(word), digits(slot as u32), Text(b" ")])?;
-    put_keypoint(alloc, out, keypoint)
+    put(out, &[Text(word), digits(slot as u32), Text(b" ")])?;
+    put_keypoint(out, keypoint)
 }
 
 fn put_file_write(
-    alloc: Global,
     out: &mut Vec<u8>,
     unit: UnitId,
     number: u16,
@@ -168,9 +137,8 @@ fn put_file_write(
     ensures fits { OnOk result (UnitFits unit × Is32 number × IsValue value.now) }
 {
     put_word(out, b"FILEWRITE ")?;
-    put_unit(alloc, out, unit)?;
+    put_unit(out, unit)?;
     put(
-        alloc,
         out,
         &[
             Text(b" "),
@@ -181,41 +149,21 @@ fn put_file_write(
     )
 }
 
-// the line of the command list of a number, among those of the site's applid
-fn clt_at(scenario: &Scenario, site: Site, number: u16) -> &[u8]
-    ensures { result.now ≡ clt_at scenario.now site number }
-{
-    let applid = scenario.applid(site);
-    let place = number.saturating_sub(1) as usize;
-    if place < scenario.clt().count_for(applid) {
-        scenario.clt().line_for(applid, place)
-    } else {
-        b""
-    }
-}
-
-fn clt_line(scenario: &Scenario, who: Who, number: u16) -> &[u8]
+fn clt_line<'a>(scenario: &'a Picked, who: Who, number: u16) -> &'a [u8]
     ensures { result.now ≡ clt_text scenario.now who number }
 {
     match who {
-        Who::A => clt_at(scenario, Site::A, number),
-        Who::B => clt_at(scenario, Site::B, number),
+        Who::A => scenario.line(Site::A, number),
+        Who::B => scenario.line(Site::B, number),
         Who::Env => b"",
     }
 }
 
-fn put_clt(
-    alloc: Global,
-    out: &mut Vec<u8>,
-    scenario: &Scenario,
-    who: Who,
-    number: u16,
-) -> Result<(), AllocError>
+fn put_clt(out: &mut Vec<u8>, scenario: &Picked, who: Who, number: u16) -> Result<(), AllocError>
     ensures text { OnOk result (out.new.items ≡ out.old.items ++ codes "CLT " ++ decimal number ++ blank (clt_text scenario.now who number)) }
     ensures fits { OnOk result (Is32 number) }
 {
     put(
-        alloc,
         out,
         &[
             Text(b"CLT "),
@@ -226,19 +174,18 @@ fn put_clt(
     )
 }
 
-fn put_ended(alloc: Global, out: &mut Vec<u8>, why: EndWhy) -> Result<(), AllocError>
+fn put_ended(out: &mut Vec<u8>, why: EndWhy) -> Result<(), AllocError>
     ensures text { OnOk result (out.new.items ≡ out.old.items ++ codes "ENDED " ++ ending_text why) }
     ensures fits { OnOk result (EndingFits why) }
 {
     put_word(out, b"ENDED ")?;
-    put_ending(alloc, out, why)
+    put_ending(out, why)
 }
 
 /// Appends an act.
 pub(crate) fn put_act(
-    alloc: Global,
     out: &mut Vec<u8>,
-    scenario: &Scenario,
+    scenario: &Picked,
     who: Who,
     act: &Act,
 ) -> Result<(), AllocError>
@@ -250,39 +197,39 @@ pub(crate) fn put_act(
         Act::StartActive => put_word(out, b"START ACTIVE"),
         Act::StartStandby => put_word(out, b"START STANDBY"),
         Act::Abend => put_word(out, b"ABEND"),
-        Act::Confirm(inc) => put_numbered(alloc, out, b"CONFIRM ", *inc),
+        Act::Confirm(inc) => put_numbered(out, b"CONFIRM ", *inc),
         Act::Reply(go) => put_both(out, b"REPLY ", go_word(*go)),
-        Act::Cebt(command, reply) => put_reply(alloc, out, *command, *reply),
+        Act::Cebt(command, reply) => put_reply(out, *command, *reply),
         Act::Exit(answer) => put_both(out, b"EXIT ", answer_word(*answer)),
         Act::Reserve => put_word(out, b"RESERVE"),
         Act::CtlRead => put_word(out, b"CTLREAD"),
-        Act::CtlWrite(control) => put_write(alloc, out, scenario, control),
+        Act::CtlWrite(control) => put_write(out, scenario, control),
         Act::Release => put_word(out, b"RELEASE"),
-        Act::Signal1(signal) => put_signal(alloc, out, b"SIGNAL1 ", signal),
-        Act::Signal2(signal) => put_signal(alloc, out, b"SIGNAL2 ", signal),
+        Act::Signal1(signal) => put_signal(out, b"SIGNAL1 ", signal),
+        Act::Signal2(signal) => put_signal(out, b"SIGNAL2 ", signal),
         Act::Look1 => put_word(out, b"LOOK1"),
         Act::Look2 => put_word(out, b"LOOK2"),
-        Act::Decide(decided) => put_decide(alloc, out, *decided),
-        Act::MsgRead(slot) => put_numbered(alloc, out, b"MSGREAD ", *slot),
-        Act::MsgClose(slot) => put_numbered(alloc, out, b"MSGCLOSE ", *slot),
-        Act::MsgBody(slot, message) => put_sent(alloc, out, b"MSGBODY ", *slot, message),
-        Act::MsgOpen(slot, message) => put_sent(alloc, out, b"MSGOPEN ", *slot, message),
-        Act::LogRead(block) => put_numbered(alloc, out, b"LOGREAD ", *block),
-        Act::LogLook(place) => put_numbered(alloc, out, b"LOGLOOK ", *place),
-        Act::LogClose(place) => put_numbered(alloc, out, b"LOGCLOSE ", *place),
-        Act::LogBody(place, rec) => put_logged(alloc, out, b"LOGBODY ", *place, rec),
-        Act::LogOpen(place, rec) => put_logged(alloc, out, b"LOGOPEN ", *place, rec),
-        Act::KpRead(slot) => put_numbered(alloc, out, b"KPREAD ", *slot as u32),
-        Act::KpClose(slot) => put_numbered(alloc, out, b"KPCLOSE ", *slot as u32),
-        Act::KpBody(slot, keypoint) => put_keyed(alloc, out, b"KPBODY ", *slot, keypoint),
-        Act::KpOpen(slot, keypoint) => put_keyed(alloc, out, b"KPOPEN ", *slot, keypoint),
-        Act::FileRead(number) => put_numbered(alloc, out, b"FILEREAD ", *number as u32),
-        Act::FileWrite(unit, number, value) => put_file_write(alloc, out, *unit, *number, value),
-        Act::Undo(number, _) => put_numbered(alloc, out, b"UNDO ", *number as u32),
-        Act::Item(number) => put_numbered(alloc, out, b"ITEM ", *number),
-        Act::Clt(number) => put_clt(alloc, out, scenario, who, *number),
+        Act::Decide(decided) => put_decide(out, *decided),
+        Act::MsgRead(slot) => put_numbered(out, b"MSGREAD ", *slot),
+        Act::MsgClose(slot) => put_numbered(out, b"MSGCLOSE ", *slot),
+        Act::MsgBody(slot, message) => put_sent(out, b"MSGBODY ", *slot, message),
+        Act::MsgOpen(slot, message) => put_sent(out, b"MSGOPEN ", *slot, message),
+        Act::LogRead(block) => put_numbered(out, b"LOGREAD ", *block),
+        Act::LogLook(place) => put_numbered(out, b"LOGLOOK ", *place),
+        Act::LogClose(place) => put_numbered(out, b"LOGCLOSE ", *place),
+        Act::LogBody(place, rec) => put_logged(out, b"LOGBODY ", *place, rec),
+        Act::LogOpen(place, rec) => put_logged(out, b"LOGOPEN ", *place, rec),
+        Act::KpRead(slot) => put_numbered(out, b"KPREAD ", *slot as u32),
+        Act::KpClose(slot) => put_numbered(out, b"KPCLOSE ", *slot as u32),
+        Act::KpBody(slot, keypoint) => put_keyed(out, b"KPBODY ", *slot, keypoint),
+        Act::KpOpen(slot, keypoint) => put_keyed(out, b"KPOPEN ", *slot, keypoint),
+        Act::FileRead(number) => put_numbered(out, b"FILEREAD ", *number as u32),
+        Act::FileWrite(unit, number, value) => put_file_write(out, *unit, *number, value),
+        Act::Undo(number, _) => put_numbered(out, b"UNDO ", *number as u32),
+        Act::Item(number) => put_numbered(out, b"ITEM ", *number),
+        Act::Clt(number) => put_clt(out, scenario, who, *number),
         Act::Restarted => put_word(out, b"RESTARTED"),
-        Act::Ended(why) => put_ended(alloc, out, *why),
+        Act::Ended(why) => put_ended(out, *why),
         Act::NoAct => Ok(()),
     }
 }

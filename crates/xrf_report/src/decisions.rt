@@ -6,7 +6,7 @@ ghost use Rattle.xrf_report.specs.Fits.{ActingFits, DecidedFits, EndingFits};
 
 use crate::records::cause_word;
 use crate::words::{put_both, put_numbered, put_word};
-use std::alloc::{AllocError, Global};
+use std::alloc::AllocError;
 use xrf_cavm::{Acting, Decided, Decision, Waiting, Why};
 use xrf_history::EndWhy;
 
@@ -40,42 +40,38 @@ fn put_decision(out: &mut Vec<u8>, decision: Decision) -> Result<(), AllocError>
     }
 }
 
-fn put_acting(alloc: Global, out: &mut Vec<u8>, acting: Acting) -> Result<(), AllocError>
+fn put_acting(out: &mut Vec<u8>, acting: Acting) -> Result<(), AllocError>
     ensures text { OnOk result (out.new.items ≡ out.old.items ++ acting_text acting) }
     ensures fits { OnOk result (ActingFits acting) }
 {
     match acting {
         Acting::Nothing => put_word(out, b"NOTHING"),
         Acting::Seen => put_word(out, b"SEEN"),
-        Acting::CatchUp(inc) => put_numbered(alloc, out, b"CATCHUP ", inc),
+        Acting::CatchUp(inc) => put_numbered(out, b"CATCHUP ", inc),
         Acting::Forget => put_word(out, b"FORGET"),
         Acting::Lost => put_word(out, b"LOST"),
     }
 }
 
 /// Appends a decision.
-pub(crate) fn put_decided(
-    alloc: Global,
-    out: &mut Vec<u8>,
-    decided: Decided,
-) -> Result<(), AllocError>
+pub(crate) fn put_decided(out: &mut Vec<u8>, decided: Decided) -> Result<(), AllocError>
     ensures text { OnOk result (out.new.items ≡ out.old.items ++ decided_text decided) }
     ensures fits { OnOk result (DecidedFits decided) }
 {
     match decided {
         Decided::Alternate(decision) => put_decision(out, decision),
         Decided::Waiting(waiting) => put_word(out, waiting_word(waiting)),
-        Decided::Owner(acting) => put_acting(alloc, out, acting),
+        Decided::Owner(acting) => put_acting(out, acting),
     }
 }
 
 /// Appends why a job ends.
-pub(crate) fn put_ending(alloc: Global, out: &mut Vec<u8>, why: EndWhy) -> Result<(), AllocError>
+pub(crate) fn put_ending(out: &mut Vec<u8>, why: EndWhy) -> Result<(), AllocError>
     ensures text { OnOk result (out.new.items ≡ out.old.items ++ ending_text why) }
     ensures fits { OnOk result (EndingFits why) }
 {
     match why {
-        EndWhy::Refused(inc) => put_numbered(alloc, out, b"REFUSED ", inc),
+        EndWhy::Refused(inc) => put_numbered(out, b"REFUSED ", inc),
         EndWhy::NoActive => put_word(out, b"NOACTIVE"),
         EndWhy::SignedOff => put_word(out, b"SIGNEDOFF"),
         EndWhy::Dropped => put_word(out, b"DROPPED"),

@@ -7,6 +7,7 @@ ghost use Rattle.std.specs.List.{AllByRecursion};
 ghost use Rattle.xrf_report.specs.Fits.{ActFits, EntryFits};
 
 use crate::acts::put_act;
+use crate::picked::Picked;
 use crate::words::{counter, digits, put_word};
 use Piece::{Hex, Text};
 use std::alloc::{AllocError, Global};
@@ -24,21 +25,20 @@ fn who_word(who: Who) -> &'static [u8]
     }
 }
 
-fn put_landing(alloc: Global, out: &mut Vec<u8>, landing: &Landing) -> Result<(), AllocError>
+fn put_landing(out: &mut Vec<u8>, landing: &Landing) -> Result<(), AllocError>
     ensures { OnOk result (out.new.items ≡ out.old.items ++ landing_text landing.now) }
 {
     match landing {
         Landing::Nothing => put_word(out, b"NONE"),
         Landing::All => put_word(out, b"ALL"),
-        Landing::Torn(torn) => put(alloc, out, &[Text(b"TORN "), Hex(torn.bytes())]),
+        Landing::Torn(torn) => put(out, &[Text(b"TORN "), Hex(torn.bytes())]),
     }
 }
 
 // an act that was cut off, and what of it landed
 fn put_cut(
-    alloc: Global,
     out: &mut Vec<u8>,
-    scenario: &Scenario,
+    scenario: &Picked,
     who: Who,
     act: &Act,
     landing: &Landing,
@@ -46,15 +46,14 @@ fn put_cut(
     ensures text { OnOk result (out.new.items ≡ out.old.items ++ cut_text scenario.now who act.now landing.now) }
     ensures fits { OnOk result (ActFits act.now) }
 {
-    put_act(alloc, out, scenario, who, act)?;
+    put_act(out, scenario, who, act)?;
     put_word(out, b" ")?;
-    put_landing(alloc, out, landing)
+    put_landing(out, landing)
 }
 
 fn put_stop(
-    alloc: Global,
     out: &mut Vec<u8>,
-    scenario: &Scenario,
+    scenario: &Picked,
     who: Who,
     act: &Act,
     landing: &Landing,
@@ -66,15 +65,14 @@ fn put_stop(
         Act::NoAct => put_word(out, b"STOP"),
         _ => {
             put_word(out, b"STOP ")?;
-            put_cut(alloc, out, scenario, who, act, landing)
+            put_cut(out, scenario, who, act, landing)
         }
     }
 }
 
 fn put_fail(
-    alloc: Global,
     out: &mut Vec<u8>,
-    scenario: &Scenario,
+    scenario: &Picked,
     who: Who,
     act: &Act,
     landing: &Landing,
@@ -83,51 +81,34 @@ fn put_fail(
     ensures fits { OnOk result (ActFits act.now) }
 {
     put_word(out, b"FAIL ")?;
-    put_cut(alloc, out, scenario, who, act, landing)
+    put_cut(out, scenario, who, act, landing)
 }
 
-fn put_lost(
-    alloc: Global,
-    out: &mut Vec<u8>,
-    scenario: &Scenario,
-    who: Who,
-    act: &Act,
-) -> Result<(), AllocError>
+fn put_lost(out: &mut Vec<u8>, scenario: &Picked, who: Who, act: &Act) -> Result<(), AllocError>
     ensures text { OnOk result (out.new.items ≡ out.old.items ++ made_text scenario.now who act.now Lost) }
     ensures fits { OnOk result (ActFits act.now) }
 {
-    put_act(alloc, out, scenario, who, act)?;
+    put_act(out, scenario, who, act)?;
     put_word(out, b" LOST")
 }
 
-fn put_made(
-    alloc: Global,
-    out: &mut Vec<u8>,
-    scenario: &Scenario,
-    entry: &Entry,
-) -> Result<(), AllocError>
+fn put_made(out: &mut Vec<u8>, scenario: &Picked, entry: &Entry) -> Result<(), AllocError>
     ensures text { OnOk result (out.new.items ≡ out.old.items ++ made_text scenario.now entry.now.who entry.now.act entry.now.land) }
     ensures fits { OnOk result (ActFits entry.now.act) }
 {
     match &entry.land {
-        Land::Full => put_act(alloc, out, scenario, entry.who, &entry.act),
-        Land::Lost => put_lost(alloc, out, scenario, entry.who, &entry.act),
-        Land::Stop(landing) => put_stop(alloc, out, scenario, entry.who, &entry.act, landing),
-        Land::Fail(landing) => put_fail(alloc, out, scenario, entry.who, &entry.act, landing),
+        Land::Full => put_act(out, scenario, entry.who, &entry.act),
+        Land::Lost => put_lost(out, scenario, entry.who, &entry.act),
+        Land::Stop(landing) => put_stop(out, scenario, entry.who, &entry.act, landing),
+        Land::Fail(landing) => put_fail(out, scenario, entry.who, &entry.act, landing),
     }
 }
 
-fn put_entry(
-    alloc: Global,
-    out: &mut Vec<u8>,
-    scenario: &Scenario,
-    entry: &Entry,
-) -> Result<(), AllocError>
+fn put_entry(out: &mut Vec<u8>, scenario: &Picked, entry: &Entry) -> Result<(), AllocError>
     ensures text { OnOk result (out.new.items ≡ out.old.items ++ entry_text scenario.now entry.now) }
     ensures fits { OnOk result (EntryFits entry.now) }
 {
     put(
-        alloc,
         out,
         &[
             digits(entry.tick),
@@ -138,22 +119,33 @@ fn put_entry(
             Text(b" "),
         ],
     )?;
-    put_made(alloc, out, scenario, entry)
+    put_made(out, scenario, entry)
 }
 
 fn put_act_line(
-    alloc: Global,
     out: &mut Vec<u8>,
-    scenario: &Scenario,
+    scenario: &Picked,
     number: u64,
     entry: &Entry,
 ) -> Result<(), AllocError>
     ensures text { OnOk result (out.new.items ≡ out.old.items ++ act_line scenario.now number entry.now) }
     ensures fits { OnOk result (EntryFits entry.now) }
 {
-    put(alloc, out, &[Text(b"* ACT "), counter(number), Text(b" ")])?;
-    put_entry(alloc, out, scenario, entry)?;
+    put(out, &[Text(b"* ACT "), counter(number), Text(b" ")])?;
+    put_entry(out, scenario, entry)?;
     put_word(out, b"\n")
+}
+
+fn put_act_lines(out: &mut Vec<u8>, scenario: &Picked, journal: &[Entry]) -> Result<(), AllocError>
+    ensures text { OnOk result (out.new.items ≡ out.old.items ++ acts_text scenario.now 1 journal.now) }
+    ensures fits { OnOk result (AllByRecursion EntryFits journal.now) }
+{
+    let mut number = 1u64;
+    for entry in journal {
+        put_act_line(out, scenario, number, entry)?;
+        number += 1;
+    }
+    Ok(())
 }
 
 /// Appends the lines of the entries, the oldest first.
@@ -166,10 +158,5 @@ pub(crate) fn put_acts(
     ensures text { OnOk result (out.new.items ≡ out.old.items ++ acts_text scenario.now 1 journal.now) }
     ensures fits { OnOk result (AllByRecursion EntryFits journal.now) }
 {
-    let mut number = 1u64;
-    for entry in journal {
-        put_act_line(alloc, out, scenario, number, entry)?;
-        number += 1;
-    }
-    Ok(())
+    put_act_lines(out, &Picked::new(alloc, scenario)?, journal)
 }

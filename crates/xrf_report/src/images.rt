@@ -11,7 +11,7 @@ ghost use Rattle.xrf_trace.specs.declared.entry.Entry.{Entry};
 
 use crate::words::digits;
 use Piece::{Hex, Text};
-use std::alloc::{AllocError, Global};
+use std::alloc::AllocError;
 use xrf_devices::DataSets;
 use xrf_gated::{BodyRule, Extent, Slots};
 use xrf_grammar::writing::{Piece, put};
@@ -36,7 +36,6 @@ pub(crate) fn piece_at(extent: &Extent, k: u32) -> [u8; 32]
 
 // the line of some bytes of a data set, by its name and their offset: none where all are zero
 fn put_image_line<'a>(
-    alloc: Global,
     out: &mut Vec<u8>,
     name: &'a [u8],
     at: u32,
@@ -48,7 +47,6 @@ fn put_image_line<'a>(
         return Ok(());
     }
     put(
-        alloc,
         out,
         &[
             Text(b"* IMAGE "),
@@ -63,57 +61,38 @@ fn put_image_line<'a>(
 }
 
 // the first so many pieces of an extent
-fn put_pieces(
-    alloc: Global,
-    out: &mut Vec<u8>,
-    name: &[u8],
-    extent: &Extent,
-    count: u32,
-) -> Result<(), AllocError>
+fn put_pieces(out: &mut Vec<u8>, name: &[u8], extent: &Extent, count: u32) -> Result<(), AllocError>
     requires within { 32 * count ≤ length extent.now }
     requires few { count ≤ 1000 }
     ensures { OnOk result (out.new.items ≡ out.old.items ++ pieces_text name.now extent.now count) }
 {
     for k in 0..count {
-        put_image_line(alloc, out, name, 32 * k, &piece_at(extent, k))?;
+        put_image_line(out, name, 32 * k, &piece_at(extent, k))?;
     }
     Ok(())
 }
 
 // all pieces of an extent, of which there are so many
-fn put_extent(
-    alloc: Global,
-    out: &mut Vec<u8>,
-    name: &[u8],
-    extent: &Extent,
-    count: u32,
-) -> Result<(), AllocError>
+fn put_extent(out: &mut Vec<u8>, name: &[u8], extent: &Extent, count: u32) -> Result<(), AllocError>
     requires size { length extent.now ≡ 32 * count }
     requires few { count ≤ 1000 }
     ensures { OnOk result (out.new.items ≡ out.old.items ++ all_pieces name.now extent.now) }
 {
-    put_pieces(alloc, out, name, extent, count)
+    put_pieces(out, name, extent, count)
 }
 
-fn put_slot(
-    alloc: Global,
-    out: &mut Vec<u8>,
-    name: &[u8],
-    at: u32,
-    bytes: &[u8; 64],
-) -> Result<(), AllocError>
+fn put_slot(out: &mut Vec<u8>, name: &[u8], at: u32, bytes: &[u8; 64]) -> Result<(), AllocError>
     requires { at ≤ 1000000 }
     ensures text { OnOk result (out.new.items ≡ out.old.items ++ slot_lines name.now at bytes.now) }
     ensures size { length bytes.now ≡ 64 }
 {
     let (first, second) = bytes.split_at(32);
-    put_image_line(alloc, out, name, at, first)?;
-    put_image_line(alloc, out, name, at + 32, second)
+    put_image_line(out, name, at, first)?;
+    put_image_line(out, name, at + 32, second)
 }
 
 // the first so many slots of a data set, from an offset on
 fn put_slots<B: BodyRule>(
-    alloc: Global,
     out: &mut Vec<u8>,
     name: &[u8],
     at: u32,
@@ -127,46 +106,40 @@ fn put_slots<B: BodyRule>(
     ensures fits { (slot : ℕ → Slot) → SlotsAre slots.now slot → OnOk result (SlotsFit slot count) }
 {
     for k in 0..count {
-        put_slot(alloc, out, name, at + 64 * k, &slots.slot(k as usize))?;
+        put_slot(out, name, at + 64 * k, &slots.slot(k as usize))?;
     }
     Ok(())
 }
 
 // the first so many slots of the file
-fn put_records(
-    alloc: Global,
-    out: &mut Vec<u8>,
-    file: &Extent,
-    count: u32,
-) -> Result<(), AllocError>
+fn put_records(out: &mut Vec<u8>, file: &Extent, count: u32) -> Result<(), AllocError>
     requires within { 32 * count ≤ length file.now }
     requires few { count ≤ 1000 }
     ensures text { (image : ℕ → List ℕ) → FileIs count file.now image → OnOk result (out.new.items ≡ out.old.items ++ records_text image count) }
     ensures fits { (image : ℕ → List ℕ) → FileIs count file.now image → OnOk result (PiecesFit image count) }
 {
     for k in 0..count {
-        put_image_line(alloc, out, b"FILE", 32 * k, &piece_at(file, k))?;
+        put_image_line(out, b"FILE", 32 * k, &piece_at(file, k))?;
     }
     Ok(())
 }
 
-fn put_control_images(alloc: Global, out: &mut Vec<u8>, sets: &DataSets) -> Result<(), AllocError>
+fn put_control_images(out: &mut Vec<u8>, sets: &DataSets) -> Result<(), AllocError>
     requires { (s : Scen) × (t : List Entry) × StandsFor sets.now s t }
     ensures { (s : Scen) (t : List Entry) → StandsFor sets.now s t → OnOk result (out.new.items ≡ out.old.items ++ all_pieces (codes "CTL") (ctl_bytes t)) }
 {
-    put_extent(alloc, out, b"CTL", &sets.ctl, 12)
+    put_extent(out, b"CTL", &sets.ctl, 12)
 }
 
-fn put_signal_images(alloc: Global, out: &mut Vec<u8>, sets: &DataSets) -> Result<(), AllocError>
+fn put_signal_images(out: &mut Vec<u8>, sets: &DataSets) -> Result<(), AllocError>
     requires { (s : Scen) × (t : List Entry) × StandsFor sets.now s t }
     ensures { (s : Scen) (t : List Entry) → StandsFor sets.now s t → OnOk result (out.new.items ≡ out.old.items ++ all_pieces (codes "MSG") (msg_signals t)) }
 {
-    put_extent(alloc, out, b"MSG", &sets.signals, 4)
+    put_extent(out, b"MSG", &sets.signals, 4)
 }
 
 /// Appends the images of data sets: a line for each 32 bytes that are not all zero.
 pub(crate) fn put_images(
-    alloc: Global,
     out: &mut Vec<u8>,
     scenario: &Scenario,
     sets: &DataSets,
@@ -175,17 +148,10 @@ pub(crate) fn put_images(
     ensures text { (t : List Entry) → StandsFor sets.now scenario.now t → OnOk result (out.new.items ≡ out.old.items ++ images_text scenario.now t) }
     ensures fits { (t : List Entry) → StandsFor sets.now scenario.now t → OnOk result (ImagesFit scenario.now t) }
 {
-    put_control_images(alloc, out, sets)?;
-    put_signal_images(alloc, out, sets)?;
-    put_slots(
-        alloc,
-        out,
-        b"MSG",
-        128,
-        &sets.messages,
-        scenario.ring() as u32,
-    )?;
-    put_slots(alloc, out, b"LOG", 0, &sets.log, scenario.log() as u32)?;
-    put_records(alloc, out, &sets.file, scenario.file() as u32)?;
-    put_slots(alloc, out, b"KEY", 0, &sets.key, 2)
+    put_control_images(out, sets)?;
+    put_signal_images(out, sets)?;
+    put_slots(out, b"MSG", 128, &sets.messages, scenario.ring() as u32)?;
+    put_slots(out, b"LOG", 0, &sets.log, scenario.log() as u32)?;
+    put_records(out, &sets.file, scenario.file() as u32)?;
+    put_slots(out, b"KEY", 0, &sets.key, 2)
 }

@@ -7,7 +7,7 @@ ghost use Rattle.xrf_report.specs.ReportFits.{StateFits};
 use crate::answers::put_answer;
 use crate::words::{counter, put_word};
 use Piece::Text;
-use std::alloc::{AllocError, Global};
+use std::alloc::AllocError;
 use xrf_base::Site;
 use xrf_grammar::writing::{Piece, put, site_word};
 use xrf_world::ItemState;
@@ -25,7 +25,6 @@ fn put_state(out: &mut Vec<u8>, state: &ItemState) -> Result<(), AllocError>
 
 /// Appends the line of an item of a site, by its number from 1.
 pub(crate) fn put_item_line(
-    alloc: Global,
     out: &mut Vec<u8>,
     site: Site,
     number: u64,
@@ -35,7 +34,6 @@ pub(crate) fn put_item_line(
     ensures fits { OnOk result (StateFits state.now) }
 {
     put(
-        alloc,
         out,
         &[
             Text(b"* ITEM "),

@@ -8,48 +8,39 @@ ghost use Rattle.xrf_report.specs.ReportFits.{JobFits};
 
 use crate::words::{digits, put_word};
 use Piece::Text;
-use std::alloc::{AllocError, Global};
+use std::alloc::AllocError;
 use xrf_base::{Inc, Site};
 use xrf_grammar::writing::{Piece, put, site_word};
 use xrf_world::JobState;
 
-fn put_of_inc(alloc: Global, out: &mut Vec<u8>, inc: Inc, word: &[u8]) -> Result<(), AllocError>
+fn put_of_inc(out: &mut Vec<u8>, inc: Inc, word: &[u8]) -> Result<(), AllocError>
     ensures text { OnOk result (out.new.items ≡ out.old.items ++ decimal inc ++ word.now) }
     ensures fits { OnOk result (Is32 inc) }
 {
-    put(alloc, out, &[digits(inc), Text(word)])
+    put(out, &[digits(inc), Text(word)])
 }
 
-fn put_job(alloc: Global, out: &mut Vec<u8>, job: JobState) -> Result<(), AllocError>
+fn put_job(out: &mut Vec<u8>, job: JobState) -> Result<(), AllocError>
     ensures text { OnOk result (out.new.items ≡ out.old.items ++ job_text job) }
     ensures fits { OnOk result (JobFits job) }
 {
     match job {
         JobState::Absent => put_word(out, b"NONE"),
         JobState::Starting => put_word(out, b"0 STARTING"),
-        JobState::Restarting(inc) => put_of_inc(alloc, out, inc, b" RESTARTING"),
-        JobState::Active(inc) => put_of_inc(alloc, out, inc, b" ACTIVE"),
-        JobState::Tracking(inc) => put_of_inc(alloc, out, inc, b" TRACKING"),
-        JobState::Waiting(inc) => put_of_inc(alloc, out, inc, b" WAITING"),
-        JobState::Ending(inc) => put_of_inc(alloc, out, inc, b" ENDING"),
+        JobState::Restarting(inc) => put_of_inc(out, inc, b" RESTARTING"),
+        JobState::Active(inc) => put_of_inc(out, inc, b" ACTIVE"),
+        JobState::Tracking(inc) => put_of_inc(out, inc, b" TRACKING"),
+        JobState::Waiting(inc) => put_of_inc(out, inc, b" WAITING"),
+        JobState::Ending(inc) => put_of_inc(out, inc, b" ENDING"),
     }
 }
 
 /// Appends the line of the job at a site.
-pub(crate) fn put_job_line(
-    alloc: Global,
-    out: &mut Vec<u8>,
-    site: Site,
-    job: JobState,
-) -> Result<(), AllocError>
+pub(crate) fn put_job_line(out: &mut Vec<u8>, site: Site, job: JobState) -> Result<(), AllocError>
     ensures text { OnOk result (out.new.items ≡ out.old.items ++ job_line site job) }
     ensures fits { OnOk result (JobFits job) }
 {
-    put(
-        alloc,
-        out,
-        &[Text(b"* JOB "), Text(site_word(site)), Text(b" ")],
-    )?;
-    put_job(alloc, out, job)?;
+    put(out, &[Text(b"* JOB "), Text(site_word(site)), Text(b" ")])?;
+    put_job(out, job)?;
     put_word(out, b"\n")
 }

@@ -11,6 +11,7 @@ mod items;
 mod jobs;
 mod logged;
 mod messages;
+mod picked;
 mod records;
 mod reporting;
 mod standing;

@@ -7,7 +7,7 @@ ghost use Rattle.xrf_report.specs.Fits.{Is32, UserFits, TerminalFits, MessageFit
 
 use crate::words::{digits, put_both, put_numbered, put_word};
 use Piece::Text;
-use std::alloc::{AllocError, Global};
+use std::alloc::AllocError;
 use xrf_base::{Inc, Name8};
 use xrf_grammar::writing::{Piece, put};
 use xrf_msg::Message;
@@ -29,15 +29,14 @@ pub(crate) fn user_word(user: &Option<Name8>) -> &[u8]
     }
 }
 
-fn put_place(alloc: Global, out: &mut Vec<u8>, epoch: Inc, seq: u32) -> Result<(), AllocError>
+fn put_place(out: &mut Vec<u8>, epoch: Inc, seq: u32) -> Result<(), AllocError>
     ensures text { OnOk result (out.new.items ≡ out.old.items ++ place_text epoch seq) }
     ensures fits { OnOk result (Is32 epoch × Is32 seq) }
 {
-    put(alloc, out, &[digits(epoch), Text(b" "), digits(seq)])
+    put(out, &[digits(epoch), Text(b" "), digits(seq)])
 }
 
 fn put_terminal(
-    alloc: Global,
     out: &mut Vec<u8>,
     epoch: Inc,
     seq: u32,
@@ -48,9 +47,8 @@ fn put_terminal(
     ensures text { OnOk result (out.new.items ≡ out.old.items ++ terminal_text epoch seq term.now class on) }
     ensures fits { OnOk result (TerminalFits epoch seq term.now class) }
 {
-    put_place(alloc, out, epoch, seq)?;
+    put_place(out, epoch, seq)?;
     put(
-        alloc,
         out,
         &[
             Text(b" "),
@@ -64,16 +62,12 @@ fn put_terminal(
 }
 
 /// Appends a message.
-pub(crate) fn put_message(
-    alloc: Global,
-    out: &mut Vec<u8>,
-    message: &Message,
-) -> Result<(), AllocError>
+pub(crate) fn put_message(out: &mut Vec<u8>, message: &Message) -> Result<(), AllocError>
     ensures text { OnOk result (out.new.items ≡ out.old.items ++ message_text message.now) }
     ensures fits { OnOk result (MessageFits message.now) }
 {
     match message {
-        Message::Begin { epoch } => put_numbered(alloc, out, b"BEGIN ", *epoch),
+        Message::Begin { epoch } => put_numbered(out, b"BEGIN ", *epoch),
         Message::Term {
             epoch,
             seq,
@@ -82,11 +76,11 @@ pub(crate) fn put_message(
             on,
         } => {
             put_word(out, b"TERM ")?;
-            put_terminal(alloc, out, *epoch, *seq, term, *class, *on)
+            put_terminal(out, *epoch, *seq, term, *class, *on)
         }
         Message::End { epoch, seq } => {
             put_word(out, b"END ")?;
-            put_place(alloc, out, *epoch, *seq)
+            put_place(out, *epoch, *seq)
         }
         Message::User {
             epoch,
@@ -97,7 +91,7 @@ pub(crate) fn put_message(
             user,
         } => {
             put_word(out, b"USER ")?;
-            put_terminal(alloc, out, *epoch, *seq, term, *class, *on)?;
+            put_terminal(out, *epoch, *seq, term, *class, *on)?;
             put_both(out, b" ", user_word(user))
         }
     }

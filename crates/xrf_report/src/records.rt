@@ -6,7 +6,7 @@ ghost use Rattle.xrf_ctl.specs.Control.{IsControl};
 
 use crate::words::put_word;
 use Piece::{Number, Text};
-use std::alloc::{AllocError, Global};
+use std::alloc::AllocError;
 use xrf_ctl::{Alt, Cause, Control, Owner, OwnerState, Taking};
 use xrf_grammar::writing::{Piece, put, site_word};
 use xrf_setup::Format;
@@ -34,12 +34,11 @@ pub(crate) fn cause_word(cause: Cause) -> &'static [u8]
     }
 }
 
-fn put_owner(alloc: Global, out: &mut Vec<u8>, owner: Option<Owner>) -> Result<(), AllocError>
+fn put_owner(out: &mut Vec<u8>, owner: Option<Owner>) -> Result<(), AllocError>
     ensures { OnOk result (out.new.items ≡ out.old.items ++ owner_text owner) }
 {
     match owner {
         Some(owner) => put(
-            alloc,
             out,
             &[
                 Number(owner.inc as u64),
@@ -53,12 +52,11 @@ fn put_owner(alloc: Global, out: &mut Vec<u8>, owner: Option<Owner>) -> Result<(
     }
 }
 
-fn put_alt(alloc: Global, out: &mut Vec<u8>, alt: Option<Alt>) -> Result<(), AllocError>
+fn put_alt(out: &mut Vec<u8>, alt: Option<Alt>) -> Result<(), AllocError>
     ensures { OnOk result (out.new.items ≡ out.old.items ++ alt_text alt) }
 {
     match alt {
         Some(alt) => put(
-            alloc,
             out,
             &[
                 Number(alt.inc as u64),
@@ -70,12 +68,11 @@ fn put_alt(alloc: Global, out: &mut Vec<u8>, alt: Option<Alt>) -> Result<(), All
     }
 }
 
-fn put_taking(alloc: Global, out: &mut Vec<u8>, taking: Option<Taking>) -> Result<(), AllocError>
+fn put_taking(out: &mut Vec<u8>, taking: Option<Taking>) -> Result<(), AllocError>
     ensures { OnOk result (out.new.items ≡ out.old.items ++ taking_text taking) }
 {
     match taking {
         Some(taking) => put(
-            alloc,
             out,
             &[
                 Number(taking.inc as u64),
@@ -87,18 +84,17 @@ fn put_taking(alloc: Global, out: &mut Vec<u8>, taking: Option<Taking>) -> Resul
     }
 }
 
-fn put_format(alloc: Global, out: &mut Vec<u8>, xrf: Format, format: u16) -> Result<(), AllocError>
+fn put_format(out: &mut Vec<u8>, xrf: Format, format: u16) -> Result<(), AllocError>
     ensures { OnOk result (out.new.items ≡ out.old.items ++ format_text xrf format) }
 {
     match xrf {
         Format::One => Ok(()),
-        Format::Two => put(alloc, out, &[Text(b" FORMAT "), Number(format as u64)]),
+        Format::Two => put(out, &[Text(b" FORMAT "), Number(format as u64)]),
     }
 }
 
 /// Appends a control record, as a document of this format tells it.
 pub(crate) fn put_control(
-    alloc: Global,
     out: &mut Vec<u8>,
     xrf: Format,
     control: &Control,
@@ -106,15 +102,11 @@ pub(crate) fn put_control(
     ensures text { OnOk result (out.new.items ≡ out.old.items ++ control_text xrf control.now) }
     ensures fits { OnOk result (IsControl control.now) }
 {
-    put(
-        alloc,
-        out,
-        &[Number(control.last() as u64), Text(b" OWNER ")],
-    )?;
-    put_owner(alloc, out, control.owner())?;
+    put(out, &[Number(control.last() as u64), Text(b" OWNER ")])?;
+    put_owner(out, control.owner())?;
     put_word(out, b" ALT ")?;
-    put_alt(alloc, out, control.alt())?;
+    put_alt(out, control.alt())?;
     put_word(out, b" TAKING ")?;
-    put_taking(alloc, out, control.taking())?;
-    put_format(alloc, out, xrf, control.format())
+    put_taking(out, control.taking())?;
+    put_format(out, xrf, control.format())
 }

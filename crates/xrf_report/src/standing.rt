@@ -8,23 +8,22 @@ ghost use Rattle.xrf_report.specs.Fits.{Is32};
 use crate::records::put_control;
 use crate::words::{digits, put_word};
 use Piece::Text;
-use std::alloc::{AllocError, Global};
+use std::alloc::AllocError;
 use xrf_base::Tick;
 use xrf_ctl::Control;
 use xrf_grammar::writing::{Piece, put};
 use xrf_setup::Format;
 
 /// Appends the line of the tick.
-pub(crate) fn put_tick_line(alloc: Global, out: &mut Vec<u8>, tick: Tick) -> Result<(), AllocError>
+pub(crate) fn put_tick_line(out: &mut Vec<u8>, tick: Tick) -> Result<(), AllocError>
     ensures text { OnOk result (out.new.items ≡ out.old.items ++ tick_line tick) }
     ensures fits { OnOk result (Is32 tick) }
 {
-    put(alloc, out, &[Text(b"* TICK "), digits(tick), Text(b"\n")])
+    put(out, &[Text(b"* TICK "), digits(tick), Text(b"\n")])
 }
 
 /// Appends the line of the control record, as a document of this format tells it.
 pub(crate) fn put_control_line(
-    alloc: Global,
     out: &mut Vec<u8>,
     xrf: Format,
     control: &Control,
@@ -33,13 +32,12 @@ pub(crate) fn put_control_line(
     ensures fits { OnOk result (IsControl control.now) }
 {
     put_word(out, b"* CONTROL ")?;
-    put_control(alloc, out, xrf, control)?;
+    put_control(out, xrf, control)?;
     put_word(out, b"\n")
 }
 
 /// Appends the line of the log: its records, the units that are committed, and those in flight.
 pub(crate) fn put_log_line(
-    alloc: Global,
     out: &mut Vec<u8>,
     records: u32,
     committed: u32,
@@ -49,7 +47,6 @@ pub(crate) fn put_log_line(
     ensures fits { OnOk result (Is32 records × Is32 committed × Is32 flight) }
 {
     put(
-        alloc,
         out,
         &[
             Text(b"* LOG "),

@@ -96,52 +96,41 @@ fn count_entries(journal: &[Entry]) -> EntryCounts
     EntryCounts { stops, throughs }
 }
 
-fn put_counted(alloc: Global, out: &mut Vec<u8>, word: &[u8], number: u64) -> Result<(), AllocError>
+fn put_counted(out: &mut Vec<u8>, word: &[u8], number: u64) -> Result<(), AllocError>
     ensures { OnOk result (out.new.items ≡ out.old.items ++ counted_line word.now number) }
 {
-    put(alloc, out, &[Text(word), Number(number), Text(b"\n")])
+    put(out, &[Text(word), Number(number), Text(b"\n")])
 }
 
-fn put_made_lines(
-    alloc: Global,
-    out: &mut Vec<u8>,
-    world: &World,
-    stops: u64,
-) -> Result<(), AllocError>
+fn put_made_lines(out: &mut Vec<u8>, world: &World, stops: u64) -> Result<(), AllocError>
     requires { stops ≡ summary.stops world.now.trace }
     ensures { OnOk result (out.new.items ≡ out.old.items ++ made_lines world.now.trace) }
 {
-    put_counted(alloc, out, b"CHOICES ", world.journal().len() as u64)?;
-    put_counted(alloc, out, b"TICKS ", world.now() as u64)?;
-    put_counted(alloc, out, b"STOPS ", stops)
+    put_counted(out, b"CHOICES ", world.journal().len() as u64)?;
+    put_counted(out, b"TICKS ", world.now() as u64)?;
+    put_counted(out, b"STOPS ", stops)
 }
 
-fn put_owner_lines(
-    alloc: Global,
-    out: &mut Vec<u8>,
-    world: &World,
-    throughs: u64,
-) -> Result<(), AllocError>
+fn put_owner_lines(out: &mut Vec<u8>, world: &World, throughs: u64) -> Result<(), AllocError>
     requires { throughs ≡ summary.throughs world.now.trace }
     ensures { OnOk result (out.new.items ≡ out.old.items ++ owner_lines world.now.trace) }
 {
-    put_counted(alloc, out, b"INCARNATIONS ", world.control().last() as u64)?;
-    put_counted(alloc, out, b"THROUGHS ", throughs)
+    put_counted(out, b"INCARNATIONS ", world.control().last() as u64)?;
+    put_counted(out, b"THROUGHS ", throughs)
 }
 
-fn put_unit_lines(alloc: Global, out: &mut Vec<u8>, world: &World) -> Result<(), AllocError>
+fn put_unit_lines(out: &mut Vec<u8>, world: &World) -> Result<(), AllocError>
     ensures { OnOk result (out.new.items ≡ out.old.items ++ unit_lines world.now.trace) }
 {
     let log = world.log_counts();
-    put_counted(alloc, out, b"COMMITTED ", log.committed as u64)?;
-    put_counted(alloc, out, b"FLIGHT ", log.flight as u64)
+    put_counted(out, b"COMMITTED ", log.committed as u64)?;
+    put_counted(out, b"FLIGHT ", log.flight as u64)
 }
 
-fn put_head(alloc: Global, out: &mut Vec<u8>, seed: u64, turns: u32) -> Result<(), AllocError>
+fn put_head(out: &mut Vec<u8>, seed: u64, turns: u32) -> Result<(), AllocError>
     ensures { OnOk result (out.new.items ≡ out.old.items ++ head_line seed turns) }
 {
     put(
-        alloc,
         out,
         &[
             Text(b"DRIVE "),
@@ -158,11 +147,11 @@ pub fn summary(alloc: Global, seed: u64, turns: u32, world: &World) -> Result<Ve
     ensures { IfOk result (λ text. text.items ≡ summary_text seed turns world.now.trace) }
 {
     let mut out = Vec::new(alloc);
-    put_head(alloc, &mut out, seed, turns)?;
+    put_head(&mut out, seed, turns)?;
     let counts = count_entries(world.journal());
-    put_made_lines(alloc, &mut out, world, counts.stops)?;
-    put_owner_lines(alloc, &mut out, world, counts.throughs)?;
-    put_unit_lines(alloc, &mut out, world)?;
-    put(alloc, &mut out, &[Text(b"DONE\n")])?;
+    put_made_lines(&mut out, world, counts.stops)?;
+    put_owner_lines(&mut out, world, counts.throughs)?;
+    put_unit_lines(&mut out, world)?;
+    put(&mut out, &[Text(b"DONE\n")])?;
     Ok(out)
 }

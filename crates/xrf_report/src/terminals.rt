@@ -8,7 +8,7 @@ ghost use Rattle.xrf_report.specs.Fits.{UserFits, RowFits};
 use crate::messages::user_word;
 use crate::words::{digits, put_both, put_word};
 use Piece::Text;
-use std::alloc::{AllocError, Global};
+use std::alloc::AllocError;
 use xrf_base::{Name8, Site};
 use xrf_grammar::writing::{Piece, put, site_word};
 use xrf_setup::Format;
@@ -36,12 +36,11 @@ fn put_row_user(out: &mut Vec<u8>, xrf: Format, user: &Option<Name8>) -> Result<
     }
 }
 
-fn put_row(alloc: Global, out: &mut Vec<u8>, xrf: Format, row: &Row) -> Result<(), AllocError>
+fn put_row(out: &mut Vec<u8>, xrf: Format, row: &Row) -> Result<(), AllocError>
     ensures text { OnOk result (out.new.items ≡ out.old.items ++ row_text xrf row.now) }
     ensures fits { OnOk result (RowFits row.now) }
 {
     put(
-        alloc,
         out,
         &[
             Text(row.term.text()),
@@ -54,28 +53,17 @@ fn put_row(alloc: Global, out: &mut Vec<u8>, xrf: Format, row: &Row) -> Result<(
     put_row_user(out, xrf, &row.user)
 }
 
-fn put_row_line(
-    alloc: Global,
-    out: &mut Vec<u8>,
-    xrf: Format,
-    site: Site,
-    row: &Row,
-) -> Result<(), AllocError>
+fn put_row_line(out: &mut Vec<u8>, xrf: Format, site: Site, row: &Row) -> Result<(), AllocError>
     ensures text { OnOk result (out.new.items ≡ out.old.items ++ row_line xrf site row.now) }
     ensures fits { OnOk result (RowFits row.now) }
 {
-    put(
-        alloc,
-        out,
-        &[Text(b"* TERM "), Text(site_word(site)), Text(b" ")],
-    )?;
-    put_row(alloc, out, xrf, row)?;
+    put(out, &[Text(b"* TERM "), Text(site_word(site)), Text(b" ")])?;
+    put_row(out, xrf, row)?;
     put_word(out, b"\n")
 }
 
 /// Appends the rows of a site's table, in their order.
 pub(crate) fn put_rows(
-    alloc: Global,
     out: &mut Vec<u8>,
     xrf: Format,
     site: Site,
@@ -86,7 +74,7 @@ pub(crate) fn put_rows(
     ensures few { length table.now ≤ 64 }
 {
     for k in 0..table.count() {
-        put_row_line(alloc, out, xrf, site, &table.row(k))?;
+        put_row_line(out, xrf, site, &table.row(k))?;
     }
     Ok(())
 }

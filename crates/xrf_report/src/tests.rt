@@ -245,8 +245,8 @@ fn terminals_are_told_with_their_users_in_xrf_2(rt: HostRuntime) -> Result<(), F
     let _on = table.logon(term, 3);
     let _signed = table.signon(term, user);
     let mut out = Vec::new(rt.alloc());
-    put_rows(rt.alloc(), &mut out, Format::One, Site::A, &table)?;
-    put_rows(rt.alloc(), &mut out, Format::Two, Site::B, &table)?;
+    put_rows(&mut out, Format::One, Site::A, &table)?;
+    put_rows(&mut out, Format::Two, Site::B, &table)?;
     let lines = b"* TERM A T1 3 ON\n* TERM B T1 3 ON ANNA\n";
     assert_eq!(rt; out.as_slice(), lines.as_slice());
     Ok(())
@@ -259,7 +259,7 @@ fn a_slot_of_the_file_is_a_record_or_empty_or_damaged(rt: HostRuntime) -> Result
     file.land(32, &value.to_slot());
     file.land(64, b"\xff");
     let mut out = Vec::new(rt.alloc());
-    put_file(rt.alloc(), &mut out, &file, 3)?;
+    put_file(&mut out, &file, 3)?;
     let lines = b"* FILE 2 AMBER\n* FILE 3 DAMAGED\n";
     assert_eq!(rt; out.as_slice(), lines.as_slice());
     Ok(())

@@ -32,7 +32,7 @@ pub fn document(
     ensures size { IfOk result (λ text. length text.items < INPUT_MOST) }
 {
     let mut out = Vec::with_capacity(alloc, MOSTLY * choices.len())?;
-    put_canonical(alloc, &mut out, scenario, choices)?;
+    put_canonical(&mut out, scenario, choices)?;
     put_report(alloc, &mut out, scenario, world)?;
     Ok(out)
 }

@@ -6,7 +6,7 @@ ghost use Rattle.xrf_grammar.specs.declared.writing.Piece.TheVariants.{Number};
 ghost use Rattle.xrf_report.specs.Fits.{Is32};
 
 use Piece::{Number, Text};
-use std::alloc::{AllocError, Global};
+use std::alloc::AllocError;
 use xrf_grammar::writing::{Piece, put};
 
 /// The piece of a number.
@@ -34,16 +34,11 @@ pub(crate) fn put_word(out: &mut Vec<u8>, word: &[u8]) -> Result<(), AllocError>
 }
 
 /// Appends a word and a number.
-pub(crate) fn put_numbered(
-    alloc: Global,
-    out: &mut Vec<u8>,
-    word: &[u8],
-    number: u32,
-) -> Result<(), AllocError>
+pub(crate) fn put_numbered(out: &mut Vec<u8>, word: &[u8], number: u32) -> Result<(), AllocError>
     ensures text { OnOk result (out.new.items ≡ out.old.items ++ word.now ++ decimal number) }
     ensures fits { OnOk result (Is32 number) }
 {
-    put(alloc, out, &[Text(word), digits(number)])
+    put(out, &[Text(word), digits(number)])
 }
 
 /// Appends two words.

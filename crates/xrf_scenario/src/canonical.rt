@@ -30,29 +30,28 @@ fn put_feed(out: &mut Vec<u8>) -> Result<(), AllocError>
     Ok(())
 }
 
-fn put_fed(alloc: Global, out: &mut Vec<u8>, line: &Line) -> Result<(), AllocError>
+fn put_fed(out: &mut Vec<u8>, line: &Line) -> Result<(), AllocError>
     ensures { OnOk result (out.new.items ≡ out.old.items ++ fed (line_text line.now)) }
 {
-    put_line(alloc, out, line)?;
+    put_line(out, line)?;
     put_feed(out)
 }
 
-fn put_lines(alloc: Global, out: &mut Vec<u8>, lines: &[Line]) -> Result<(), AllocError>
+fn put_lines(out: &mut Vec<u8>, lines: &[Line]) -> Result<(), AllocError>
     ensures { OnOk result (out.new.items ≡ out.old.items ++ text_of (map line_text lines.now)) }
 {
     for line in lines {
-        put_fed(alloc, out, line)?;
+        put_fed(out, line)?;
     }
     Ok(())
 }
 
-fn put_levels(alloc: Global, out: &mut Vec<u8>, settings: &Settings) -> Result<(), AllocError>
+fn put_levels(out: &mut Vec<u8>, settings: &Settings) -> Result<(), AllocError>
     ensures { OnOk result (out.new.items ≡ out.old.items ++ text_of (map line_text (level_lines settings.now.format settings.now))) }
 {
     match settings.format {
         Format::One => Ok(()),
         Format::Two => put_lines(
-            alloc,
             out,
             &[
                 Line::Level(Site::A, level_number(settings.level_a)),
@@ -64,7 +63,6 @@ fn put_levels(alloc: Global, out: &mut Vec<u8>, settings: &Settings) -> Result<(
 }
 
 fn put_quantity(
-    alloc: Global,
     out: &mut Vec<u8>,
     settings: &Settings,
     quantity: Quantity,
@@ -72,11 +70,10 @@ fn put_quantity(
     ensures { OnOk result (out.new.items ≡ out.old.items ++ fed (line_text (line.Quantity quantity (quantity_of settings.now quantity)))) }
 {
     let number = quantity.of(settings);
-    put_fed(alloc, out, &Line::Quantity(quantity, number))
+    put_fed(out, &Line::Quantity(quantity, number))
 }
 
 fn put_quantities(
-    alloc: Global,
     out: &mut Vec<u8>,
     settings: &Settings,
     quantities: &[Quantity],
@@ -84,16 +81,15 @@ fn put_quantities(
     ensures { OnOk result (out.new.items ≡ out.old.items ++ text_of (map (λ (q : Quantity). line_text (line.Quantity q (quantity_of settings.now q))) quantities.now)) }
 {
     for quantity in quantities {
-        put_quantity(alloc, out, settings, *quantity)?;
+        put_quantity(out, settings, *quantity)?;
     }
     Ok(())
 }
 
-fn put_settings(alloc: Global, out: &mut Vec<u8>, settings: &Settings) -> Result<(), AllocError>
+fn put_settings(out: &mut Vec<u8>, settings: &Settings) -> Result<(), AllocError>
     ensures { OnOk result (out.new.items ≡ out.old.items ++ text_of (map line_text (setting_lines settings.now))) }
 {
     put_lines(
-        alloc,
         out,
         &[
             Line::Applid(Site::A, settings.applid_a),
@@ -101,30 +97,24 @@ fn put_settings(alloc: Global, out: &mut Vec<u8>, settings: &Settings) -> Result
             Line::Takeovr(settings.takeovr),
         ],
     )?;
-    put_quantities(alloc, out, settings, quantities())?;
-    put_lines(alloc, out, &[Line::Images(settings.images)])?;
-    put_levels(alloc, out, settings)
+    put_quantities(out, settings, quantities())?;
+    put_lines(out, &[Line::Images(settings.images)])?;
+    put_levels(out, settings)
 }
 
-fn put_records(alloc: Global, out: &mut Vec<u8>, records: &[(u16, Value)]) -> Result<(), AllocError>
+fn put_records(out: &mut Vec<u8>, records: &[(u16, Value)]) -> Result<(), AllocError>
     ensures { OnOk result (out.new.items ≡ out.old.items ++ text_of (record_lines records.now)) }
 {
     for (number, value) in records {
-        put_fed(alloc, out, &Line::Record(*number, *value))?;
+        put_fed(out, &Line::Record(*number, *value))?;
     }
     Ok(())
 }
 
-fn put_command<'a>(
-    alloc: Global,
-    out: &mut Vec<u8>,
-    applid: &'a [u8],
-    text: &'a [u8],
-) -> Result<(), AllocError>
+fn put_command<'a>(out: &mut Vec<u8>, applid: &'a [u8], text: &'a [u8]) -> Result<(), AllocError>
     ensures { OnOk result (out.new.items ≡ out.old.items ++ fed (codes "CLT " ++ kept_text (record { applid = applid.now; text = text.now }))) }
 {
     put(
-        alloc,
         out,
         &[
             Text(b"CLT "),
@@ -136,98 +126,84 @@ fn put_command<'a>(
     )
 }
 
-fn put_clt(alloc: Global, out: &mut Vec<u8>, clt: &Clt) -> Result<(), AllocError>
+fn put_clt(out: &mut Vec<u8>, clt: &Clt) -> Result<(), AllocError>
     ensures { OnOk result (out.new.items ≡ out.old.items ++ text_of (clt_lines clt.now)) }
 {
     for place in 0..clt.count() {
         let (applid, text) = clt.line(place);
-        put_command(alloc, out, applid.text(), text)?;
+        put_command(out, applid.text(), text)?;
     }
     Ok(())
 }
 
-fn put_work(alloc: Global, out: &mut Vec<u8>, site: Site, work: &[Item]) -> Result<(), AllocError>
+fn put_work(out: &mut Vec<u8>, site: Site, work: &[Item]) -> Result<(), AllocError>
     ensures { OnOk result (out.new.items ≡ out.old.items ++ text_of (map (λ (i : Item). line_text (Work site i)) work.now)) }
 {
     for item in work {
-        put_fed(alloc, out, &Line::Work(site, *item))?;
+        put_fed(out, &Line::Work(site, *item))?;
     }
     Ok(())
 }
 
-fn put_planned(
-    alloc: Global,
-    out: &mut Vec<u8>,
-    tick: Tick,
-    choice: &Choice,
-) -> Result<(), AllocError>
+fn put_planned(out: &mut Vec<u8>, tick: Tick, choice: &Choice) -> Result<(), AllocError>
     ensures { OnOk result (out.new.items ≡ out.old.items ++ fed (line_text (Plan tick choice.now))) }
 {
-    put(
-        alloc,
-        out,
-        &[Text(b"PLAN "), Number(tick as u64), Text(b" ")],
-    )?;
-    put_choice(alloc, out, choice)?;
+    put(out, &[Text(b"PLAN "), Number(tick as u64), Text(b" ")])?;
+    put_choice(out, choice)?;
     put_feed(out)
 }
 
-fn put_plan(alloc: Global, out: &mut Vec<u8>, plan: &[(Tick, Choice)]) -> Result<(), AllocError>
+fn put_plan(out: &mut Vec<u8>, plan: &[(Tick, Choice)]) -> Result<(), AllocError>
     ensures { OnOk result (out.new.items ≡ out.old.items ++ text_of (plan_lines plan.now)) }
 {
     for (tick, choice) in plan {
-        put_planned(alloc, out, *tick, choice)?;
+        put_planned(out, *tick, choice)?;
     }
     Ok(())
 }
 
-fn put_made(alloc: Global, out: &mut Vec<u8>, choice: &Choice) -> Result<(), AllocError>
+fn put_made(out: &mut Vec<u8>, choice: &Choice) -> Result<(), AllocError>
     ensures { OnOk result (out.new.items ≡ out.old.items ++ fed (choice_text choice.now)) }
 {
-    put_choice(alloc, out, choice)?;
+    put_choice(out, choice)?;
     put_feed(out)
 }
 
-fn put_choices(alloc: Global, out: &mut Vec<u8>, choices: &[Choice]) -> Result<(), AllocError>
+fn put_choices(out: &mut Vec<u8>, choices: &[Choice]) -> Result<(), AllocError>
     ensures { OnOk result (out.new.items ≡ out.old.items ++ text_of (map choice_text choices.now)) }
 {
     for choice in choices {
-        put_made(alloc, out, choice)?;
+        put_made(out, choice)?;
     }
     Ok(())
 }
 
 /// Appends the lines of a scenario up to CHOICES.
-pub fn put_scenario(alloc: Global, out: &mut Vec<u8>, scenario: &Scenario) -> Result<(), AllocError>
+pub fn put_scenario(out: &mut Vec<u8>, scenario: &Scenario) -> Result<(), AllocError>
     ensures text { OnOk result (out.new.items ≡ out.old.items ++ text_of (scenario_lines scenario.now)) }
     ensures scenario { IsScen scenario.now }
 {
-    put_header(alloc, out, scenario.format())?;
+    put_header(out, scenario.format())?;
     put_feed(out)?;
-    put_settings(alloc, out, scenario.settings())?;
-    put_records(alloc, out, scenario.records())?;
-    put_clt(alloc, out, scenario.clt())?;
-    put_work(alloc, out, Site::A, scenario.work(Site::A))?;
-    put_work(alloc, out, Site::B, scenario.work(Site::B))?;
-    put_plan(alloc, out, scenario.plan())
+    put_settings(out, scenario.settings())?;
+    put_records(out, scenario.records())?;
+    put_clt(out, scenario.clt())?;
+    put_work(out, Site::A, scenario.work(Site::A))?;
+    put_work(out, Site::B, scenario.work(Site::B))?;
+    put_plan(out, scenario.plan())
 }
 
 /// Appends the lines from CHOICES to END.
-pub fn put_made_choices(
-    alloc: Global,
-    out: &mut Vec<u8>,
-    choices: &[Choice],
-) -> Result<(), AllocError>
+pub fn put_made_choices(out: &mut Vec<u8>, choices: &[Choice]) -> Result<(), AllocError>
     ensures { OnOk result (out.new.items ≡ out.old.items ++ text_of (choice_lines choices.now)) }
 {
-    put_fed(alloc, out, &Line::Choices)?;
-    put_choices(alloc, out, choices)?;
-    put_fed(alloc, out, &Line::End)
+    put_fed(out, &Line::Choices)?;
+    put_choices(out, choices)?;
+    put_fed(out, &Line::End)
 }
 
 /// Appends the canonical text of a scenario and its choices, up to and with its line END.
 pub fn put_canonical(
-    alloc: Global,
     out: &mut Vec<u8>,
     scenario: &Scenario,
     choices: &[Choice],
@@ -235,8 +211,8 @@ pub fn put_canonical(
     ensures text { OnOk result (out.new.items ≡ out.old.items ++ canon scenario.now choices.now) }
     ensures scenario { IsScen scenario.now }
 {
-    put_scenario(alloc, out, scenario)?;
-    put_made_choices(alloc, out, choices)
+    put_scenario(out, scenario)?;
+    put_made_choices(out, choices)
 }
 
 /// The canonical text of a scenario and its choices, up to and with its line END.
@@ -244,7 +220,7 @@ pub fn write(alloc: Global, scenario: &Scenario, choices: &[Choice]) -> Result<V
     ensures { IfOk result (λ text. text.items ≡ canon scenario.now choices.now) }
 {
     let mut out = Vec::new(alloc);
-    put_canonical(alloc, &mut out, scenario, choices)?;
+    put_canonical(&mut out, scenario, choices)?;
     Ok(out)
 }
 

@@ -2,7 +2,7 @@ use Rattle.std.proofs.Common.{◌≡◌, ◌++◌, ◌+◌, drop, take}
 use Rattle.std.specs.List.{AllByRecursion}
 use Rattle.xrf_report.specs.Entries.{acts_text}
 use Rattle.xrf_report.specs.Fits.{EntryFits}
-use Rattle.xrf_report.proofs.entries.put_acts.Given as goal
+use Rattle.xrf_report.proofs.entries.put_act_lines.Given as goal
 
 -- the acts so far and those of the entries left are the acts
 abbrev pub invariant-loop-entry : goal.invariant-loop-entry

@@ -1,0 +1,10 @@
+pub mod Serving
+pub mod Takeovers
+pub mod Operator
+pub mod InPlace
+pub mod Working
+pub mod Pausing
+pub mod Staying
+pub mod Blocking
+pub mod Alone
+pub mod Worked

@@ -1,12 +1,17 @@
 """The documents that the tests of the tools go over, and runs that are made for them."""
 
+import os
 from pathlib import Path
 
 from xrf_tools.document import Document, read
 
-ROOT = Path(__file__).resolve().parents[2]
-# Whole runs of a pair, a run that shows the bytes of the data sets, the rows of the program's own tests, and the examples.
-FOLDERS = [ROOT / name for name in ("tests/runs", "tests/documents", "tests/rows", "examples", "examples/tutorial")]
+HERE = Path(__file__).resolve().parent
+ROOT = HERE.parents[1]
+# A stored document is told as it stands here; a test that is of replaying names its program.
+os.environ["XRF_AS_BUILT"] = str(HERE / "writes_back")
+# Whole runs of a pair, a run that shows the bytes of the data sets, the rows of the program's own tests, runs that show what
+# the others do not, and the examples.
+FOLDERS = [ROOT / name for name in ("tests/runs", "tests/documents", "tests/rows", "tests/shown", "examples", "examples/tutorial")]
 TAKEOVER = "takeover_with_the_default_intervals"
 
 

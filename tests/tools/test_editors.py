@@ -10,6 +10,7 @@ from pathlib import Path
 
 import runs
 from textmate import Grammar, scope_at
+from xrf_tools.language import OF_THE_RUN
 
 EDITORS = runs.ROOT / "tools" / "editors"
 GRAMMAR = json.loads((EDITORS / "vscode/syntaxes/xrf.tmLanguage.json").read_text())
@@ -31,8 +32,15 @@ LINES = {
 
 def stored() -> list[Path]:
     """Every scenario and document that may be read to its end."""
-    files = [path for folder in ("examples", "examples/tutorial", "tests/rows", "tests/runs") for path in (runs.ROOT / folder).glob("*.*")]
-    return sorted(path for path in files if path.suffix in (".in", ".out") and is_whole(path.read_text()))
+    files = [path for folder in ("examples", "examples/tutorial", "tests/rows", "tests/runs", "tests/shown") for path in (runs.ROOT / folder).glob("*.*")]
+    return sorted(path for path in files if path.suffix in (".in", ".out") and is_whole(path.read_text()) and can_be_read(path))
+
+
+def can_be_read(path: Path) -> bool:
+    """It is not refused, or not for what its text is."""
+    answer = path.with_suffix(".out")
+    first = answer.read_text().split("\n")[0] if answer.exists() else ""
+    return not first.startswith("XRF REFUSED") or first.split(" ")[-1] in (*OF_THE_RUN, "CHOICES-GIVEN")
 
 
 def is_whole(text: str) -> bool:
@@ -62,6 +70,13 @@ class TextMate(unittest.TestCase):
     def test_a_line_of_no_form_is_wrong(self) -> None:
         for line in ("HELLO", "step A", "WORK C BEGIN U1", "XRF 3"):
             self.assertEqual(scope_at(self.grammar.tokens(line), 0), "invalid.illegal.line.xrf", line)
+
+    def test_the_extension_colours_every_stored_scenario_and_document(self) -> None:
+        (language,) = json.loads((EDITORS / "vscode/package.json").read_text())["contributes"]["languages"]
+        for path in stored():
+            is_named = any(path.match(pattern.removeprefix("**/")) for pattern in language["filenamePatterns"])
+            is_known = path.suffix in language["extensions"] or re.match(language["firstLine"], path.read_text().split("\n")[0])
+            self.assertTrue(is_named or is_known, path)
 
     def test_the_extension_names_files_that_are_there(self) -> None:
         package = json.loads((EDITORS / "vscode/package.json").read_text())

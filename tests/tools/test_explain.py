@@ -5,12 +5,15 @@ import re
 import tempfile
 import unittest
 from pathlib import Path
+from unittest import mock
 
 import runs
 from test_draw import call
-from xrf_tools import refusals
-from xrf_tools.meaning import CALLS, tell
 from xrf_tools.acts import FORMS
+from xrf_tools.language import REASONS
+from xrf_tools.meaning import CALLS, tell
+from xrf_tools.refusals import told
+from xrf_tools.refused import Refused
 from xrf_tools.standing import Standing
 from xrf_tools.story import by_acts, summed_up
 
@@ -92,7 +95,12 @@ class Stories(unittest.TestCase):
 
 
 class Refusals(unittest.TestCase):
-    """The stored refusals of the program, and a stand-in of it that refuses one line."""
+    """The stored refusals of the program, told without it."""
+
+    def setUp(self) -> None:
+        program = mock.patch.dict(os.environ, {"XRF_AS_BUILT": ""})
+        program.start()
+        self.addCleanup(program.stop)
 
     def told(self, name: str) -> str:
         row = runs.ROOT / "tests" / "rows" / name
@@ -111,7 +119,7 @@ class Refusals(unittest.TestCase):
         told = self.told("a_setting_out_of_its_range")
         self.assertEqual(told.splitlines(), [
             "Line 2 is refused: ADI 4", "OUT-OF-RANGE: a number is outside its range.",
-            "Right would be: ADI n, from 5 to 3600."])
+            "Its form is: ADI n, n from 5 to 3600."])
         self.assertIn("It was given in line 2: ADI 9.", self.told("a_setting_given_twice"))
         self.assertIn("Right would be: FILE 17.", self.told("a_record_outside_the_file"))
 
@@ -119,19 +127,19 @@ class Refusals(unittest.TestCase):
         page = (runs.ROOT / "docs" / "SCENARIOS.md").read_text()
         reasons = set(re.findall(r"^\| `([A-Z-]+)` \|", page, re.M))
         self.assertGreater(len(reasons), 20)
-        self.assertEqual(reasons - set(refusals.REASONS), set())
+        self.assertEqual(reasons - set(REASONS), set())
 
     def test_forms_go_by_the_words_of_the_line(self) -> None:
         def right(line: str, reason: str, part: str = "XRF 1") -> str:
             lines = [*part.split("/"), line]
-            return "\n".join(refusals.told(refusals.Refused(len(lines), reason, lines), can_run=False))
+            return "\n".join(told(Refused(len(lines), reason, lines)))
 
-        self.assertIn("WORK A|B PUT unit n value", right("WORK A PUT U1 1", "WORD-COUNT"))
+        self.assertIn("WORK A|B PUT name n value", right("WORK A PUT U1 1", "WORD-COUNT"))
         self.assertIn("one of BEGIN, PUT, GET", right("WORK A ADD U1", "BAD-ITEM"))
         self.assertIn("PLAN n START A|B ACTIVE|STANDBY", right("PLAN 3 START A", "WORD-COUNT"))
         self.assertIn("one of START, STOP", right("PLAN 3 STEP A", "BAD-PLAN"))
         self.assertIn("STOP A|B TORN hex", right("STOP A TORN 0", "BAD-HEX", "XRF 1/CHOICES"))
-        self.assertIn("begins with one of TICK, STEP", right("WALK A", "UNKNOWN-WORD", "XRF 1/CHOICES"))
+        self.assertIn("begins here with one of TICK, STEP", right("WALK A", "UNKNOWN-WORD", "XRF 1/CHOICES"))
 
     def test_what_is_no_refusal_is_a_fault(self) -> None:
         for text in ("XRF REFUSED LINE x BAD", "XRF REFUSED LINE 3 NO-SUCH-REASON", "XRF REFUSED "):
@@ -162,7 +170,7 @@ class Replayed(unittest.TestCase):
         launcher.chmod(0o755)
         was = dict(os.environ)
         self.addCleanup(lambda: (os.environ.clear(), os.environ.update(was)))
-        os.environ.update({"XRF_LAUNCHER": str(launcher), "STORED": str(runs.path(runs.TAKEOVER))})
+        os.environ.update({"XRF_LAUNCHER": str(launcher), "XRF_AS_BUILT": str(launcher), "STORED": str(runs.path(runs.TAKEOVER))})
 
     def scenario(self, *lines: str) -> str:
         path = self.room / "a.in"
@@ -179,7 +187,7 @@ class Replayed(unittest.TestCase):
         self.assertEqual((status, err), (0, ""))
         self.assertIn("Line 4 is refused: STEP A 99", out)
         self.assertIn("Before this line it is tick 32; no region is at A and B is active; 302 acts were made.", out)
-        self.assertIn("START A ACTIVE; or START A STANDBY", out)
+        self.assertIn("Right would be: START A ACTIVE, STEP A 98.", out)
 
     def test_a_refused_scenario_is_not_drawn(self) -> None:
         status, out, err = call("draw", self.scenario("STEP A 99"))
@@ -187,6 +195,7 @@ class Replayed(unittest.TestCase):
         self.assertIn("LINE 4 NOT-ENABLED", err)
 
     def test_a_plan_without_choices_is_for_the_word_run(self) -> None:
+        os.environ["XRF_AS_BUILT"] = str(runs.HERE / "writes_back")
         path = self.room / "planned.out"
         path.write_text("\n".join(["XRF 1", "PLAN 0 START A ACTIVE", "CHOICES", "END", "* TICK 0", "* CONTROL 0 OWNER NONE ALT NONE TAKING NONE",
                                    "* JOB A NONE", "* JOB B NONE", "* LOG 0 COMMITTED 0 FLIGHT 0", "* DONE", ""]))

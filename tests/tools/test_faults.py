@@ -13,17 +13,19 @@ import runs
 from test_draw import call
 from xrf_tools.document import read
 from xrf_tools.errors import Fault
+from xrf_tools.language import REASONS
 from xrf_tools.picture.columns import columns
 from xrf_tools.picture.page import page
-from xrf_tools.refusals import REASONS, Refused, told
+from xrf_tools.refusals import told
+from xrf_tools.refused import Refused
 from xrf_tools.scene import build
 from xrf_tools.story import summed_up
 
 
 class Faults(unittest.TestCase):
-    def fault(self, *words: str) -> str:
-        status, out, err = call(*words)
-        self.assertEqual((status, out, err.count("\n")), (1, "", 1), err)
+    def fault(self, *words: str, status: int = 1) -> str:
+        got, out, err = call(*words)
+        self.assertEqual((got, out, err.count("\n")), (status, "", 1), err)
         self.assertTrue(err.startswith("xrf: "))
         return err
 
@@ -49,7 +51,7 @@ class Faults(unittest.TestCase):
         for text in ("", "hello\n* DONE\n", "XRF 3\nCHOICES\nEND\n"):
             self.assertIn("no scenario and no document", self.fault("draw", self.given(text)))
         self.assertIn("line 2", self.fault("draw", self.given("XRF 1\nhello\n* DONE\n")))
-        self.assertIn("byte", self.fault("draw", self.given("XRF 1\nCHOICES\nEND\n* caf\u00e9\n")))
+        self.assertIn("is no choice", self.fault("draw", self.given("XRF 1\nCHOICES\ncaf\u00e9\nEND\n* DONE\n")))
         whole = runs.path(runs.TAKEOVER).read_text()
         self.assertIn("no whole report", self.fault("draw", self.given(whole.replace("* DONE\n", ""))))
         self.assertIn("not that of its choices", self.fault("draw", self.given(whole.replace("STEP A\n", "", 1))))
@@ -57,7 +59,22 @@ class Faults(unittest.TestCase):
         self.assertIn("is no act", self.fault("draw", self.given(whole.replace("B 2 UNDO 1", "B 2 DO 1"))))
 
     def test_a_page_that_cannot_be_written(self) -> None:
-        self.fault("draw", str(runs.path(runs.TAKEOVER)), "--output", "/nowhere/x.html")
+        self.fault("draw", str(runs.path(runs.TAKEOVER)), "--output", "/nowhere/x.html", status=20)
+
+    def test_an_output_that_fails_ends_with_its_status_and_one_line(self) -> None:
+        for word in (["draw"], ["draw", "--text"], ["explain"]):
+            for output, said in ((">/dev/full", "no space left on device"), (">&-", "closed")):
+                words = " ".join([sys.executable, "-B", "-m", "xrf_tools", *word, str(runs.path("the_full_log")), output])
+                done = subprocess.run(words, shell=True, capture_output=True, text=True, cwd=runs.ROOT / "tools")
+                self.assertEqual((done.returncode, done.stderr.count("\n")), (20, 1), done.stderr)
+                self.assertIn(said, done.stderr)
+
+    def test_nothing_is_written_over_silently(self) -> None:
+        with tempfile.TemporaryDirectory() as room:
+            path = f"{room}/a.html"
+            run = str(runs.path("the_full_log"))
+            self.assertIn("was written\n", call("draw", run, "--output", path)[2])
+            self.assertIn("was there", call("draw", run, "--output", path)[2])
 
     def test_a_reader_that_ends_early_is_no_traceback(self) -> None:
         path = shlex.quote(str(runs.path("the_full_log")))
@@ -86,7 +103,7 @@ class Faults(unittest.TestCase):
         lines = [*runs.path("the_paused_active").read_text().split("\n")[:40], "", "WORK", "WORK A", "PLAN", "PLAN 1", "X"]
         for number in range(len(lines) + 2):
             for reason in REASONS:
-                self.assertIn(reason, "\n".join(told(Refused(number, reason, lines), can_run=False)))
+                self.assertIn(reason, "\n".join(told(Refused(number, reason, lines))))
 
     def changed(self, chance: random.Random, text: str) -> str:
         lines = text.split("\n")

@@ -3,6 +3,7 @@
 import os
 import pty
 import re
+import select
 import shutil
 import subprocess
 import sys
@@ -11,20 +12,34 @@ import time
 import unittest
 from pathlib import Path
 
+from xrf_tools.__main__ import WORDS
+
 ROOT = Path(__file__).resolve().parents[2]
 
 # A stand-in of rt: it notes its words, and builds the stand-in of the program for `rt run`.
 RT = """#!/usr/bin/env bash
+[ "$1" != version ] || { echo 'a kit logic 1234'; exit; }
 echo "$(basename "$PWD") $*" >>"$RT_CALLS"
 [ ! -e refuses ] || { echo "open goal of this crate"; exit 1; }
+if [ -e meets ]; then
+  touch begun
+  for _ in $(seq 100); do if [ -e "../$(cat meets)/begun" ]; then break; fi; sleep 0.1; done
+  [ -e "../$(cat meets)/begun" ] || exit 1
+fi
 mkdir -p out
 if [ "$1" = run ]; then cp ../../program.sh out/xrf; exec out/xrf replay; fi
 """
 
-# A stand-in of the program: it writes its words and its input, and ends with the status that the input asks for.
+# A stand-in of the program: it writes its words and its input, and ends with the status that the input asks for; a
+# document it writes back.
 PROGRAM = """#!/usr/bin/env bash
-echo "words: $*"
 input=$(cat)
+case $input in
+  "XRF "*) echo "$input"; exit ;;
+  long) printf '%9999d\n' 1 || exit 20; exit ;;
+esac
+echo "words: $*"
+[ "$*" != 'drive 7 9000' ] || exit 12
 echo "$input"
 case $input in status\\ *) exit "${input#status }" ;; esac
 """
@@ -51,9 +66,10 @@ class Checkout(unittest.TestCase):
         (self.home / "crates.txt").write_text(CRATES)
         (self.home / "program.sh").write_text(PROGRAM)
         (self.home / "program.sh").chmod(0o755)
-        for name in ("xrf", "Makefile"):
+        for name in ("xrf", "Makefile", "README.md", "CHANGELOG.md"):
             shutil.copy(ROOT / name, self.home / name)
-        shutil.copytree(ROOT / "tools", self.home / "tools", ignore=shutil.ignore_patterns("__pycache__"))
+        for name in ("tools", "docs", "examples", "schema"):
+            shutil.copytree(ROOT / name, self.home / name, ignore=shutil.ignore_patterns("__pycache__"))
         (self.room / "bin").mkdir()
         (self.room / "bin" / "python3").symlink_to(sys.executable)
         rt = self.room / "bin" / "rt"
@@ -76,6 +92,41 @@ class Words(Checkout):
             self.assertEqual((done.returncode, done.stderr), (0, ""))
             self.assertIn("xrf", done.stdout)
         self.assertEqual(self.rt_calls(), [])
+
+    def test_each_word_has_its_help_which_builds_nothing(self) -> None:
+        for word in ("replay", "run", "drive", "build", "draw", "explain", "check"):
+            for words in ((word, "--help"), (word, "-h"), ("help", word)):
+                done = self.run_xrf(*words)
+                self.assertEqual((done.returncode, done.stderr), (0, ""), words)
+                self.assertTrue(done.stdout.startswith(f"usage: xrf {word}"), done.stdout)
+        self.assertEqual(self.run_xrf("help").stdout, self.run_xrf("--help").stdout)
+        self.assertEqual(self.run_xrf("version").stdout, self.run_xrf("--version").stdout)
+        self.assertEqual(self.rt_calls(), [])
+
+    def test_the_version_comes_with_the_commit_and_the_logic(self) -> None:
+        self.assertEqual(self.run_xrf("--version").stdout, "xrf 0.1.0 (commit unknown, a kit logic 1234)\n")
+        (self.room / "bin/git").write_text("#!/usr/bin/env bash\necho abc1234\n")
+        (self.room / "bin/git").chmod(0o755)
+        self.run_xrf("build")
+        (self.room / "bin/rt").unlink()
+        self.assertEqual(self.run_xrf("version").stdout, "xrf 0.1.0 (commit abc1234, a kit logic 1234)\n")
+
+    def test_too_many_turns_are_told_with_their_limit(self) -> None:
+        done = self.run_xrf("drive", "7", "9000")
+        self.assertEqual((done.returncode, done.stdout), (12, "words: drive 7 9000\n"))
+        self.assertIn("at most 8192 choices", done.stderr)
+
+    def test_a_refusal_names_the_word_that_explains_it(self) -> None:
+        scenario = self.room / "a scenario"
+        scenario.write_text("status 8")
+        self.assertIn(f"xrf explain {scenario} says more", self.run_xrf("replay", str(scenario)).stderr)
+        self.assertIn("xrf explain FILE says more", self.run_xrf("replay", given="status 8").stderr)
+
+    def test_a_write_beyond_the_limit_of_file_sizes_is_a_status_and_no_signal(self) -> None:
+        self.run_xrf("build")
+        done = self.run_xrf("-c", f"ulimit -f 1; '{self.home}/xrf' replay >out", given="long", xrf="bash")
+        self.assertEqual(done.returncode, 20, done.stderr)
+        self.assertIn("could not be written to its end (status 20)", done.stderr)
 
     def test_no_words_build_nothing(self) -> None:
         done = self.run_xrf()
@@ -102,10 +153,9 @@ class Words(Checkout):
             self.assertEqual((done.stdout, done.returncode), ("words: run\nsome lines\n", 0))
 
     def test_a_file_that_cannot_be_read_is_said_and_nothing_is_built(self) -> None:
-        for name in ("nowhere", str(self.room)):
+        for name, said in (("nowhere", "is not there"), (str(self.room), "is a folder")):
             done = self.run_xrf("replay", name)
-            self.assertEqual((done.returncode, done.stdout, done.stderr.count("\n")), (16, "", 1))
-            self.assertIn(name, done.stderr)
+            self.assertEqual((done.returncode, done.stdout, done.stderr), (16, "", f"xrf: {name} {said} (status 16)\n"))
         self.assertEqual(self.rt_calls(), [])
 
     def test_other_words_go_to_the_program(self) -> None:
@@ -192,6 +242,17 @@ class Building(Checkout):
         self.assertEqual(done.stdout, f"{self.home}/crates/xrf/out/xrf\n")
         self.assertEqual(len(self.rt_calls()), 3)
 
+    def test_another_program_can_be_named_and_then_nothing_is_built(self) -> None:
+        other = self.room / "another program"
+        other.write_text("#!/usr/bin/env bash\necho another: $*\n")
+        other.chmod(0o755)
+        env = {**self.env, "XRF_PROGRAM": str(other)}
+        self.assertEqual(self.run_xrf("replay", env=env).stdout, "another: replay\n")
+        self.assertEqual(self.run_xrf("--program", env=env).stdout, f"{other}\n")
+        done = self.run_xrf("replay", env={**self.env, "XRF_PROGRAM": f"{other}s"})
+        self.assertEqual((done.returncode, done.stdout, done.stderr), (1, "", f"xrf: XRF_PROGRAM names no program: {other}s\n"))
+        self.assertEqual(self.rt_calls(), [])
+
     def test_check_runs_the_program_that_is_built(self) -> None:
         folder = self.room / "rows"
         folder.mkdir()
@@ -208,6 +269,21 @@ class Building(Checkout):
         self.assertIn("middle could not be proved", done.stderr)
         self.assertIn("open goal of this crate", done.stderr)
         self.assertIn("build.log", done.stderr)
+
+    def test_crates_that_do_not_wait_for_each_other_are_built_at_the_same_time(self) -> None:
+        (self.home / "crates.txt").write_text(CRATES.replace("middle low", "middle beside low"))
+        for name, other in (("beside", "middle"), ("middle", "beside")):
+            (self.home / "crates" / name / "meets").write_text(other)
+        done = self.run_xrf("build", env={**self.env, "XRF_JOBS": "2"})
+        self.assertEqual(done.returncode, 0, done.stderr)
+        calls = [line.split()[0] for line in self.rt_calls()]
+        self.assertEqual((calls[0], sorted(calls[1:3]), calls[3]), ("low", ["beside", "middle"], "xrf"))
+
+    def test_a_checkout_that_cannot_be_written_is_told(self) -> None:
+        (self.home / "crates/xrf/out").write_text("a file in the place of the folder")
+        done = self.run_xrf("replay", given="x")
+        self.assertEqual((done.returncode, done.stdout, done.stderr.count("\n")), (1, "", 1))
+        self.assertIn("can't be written, so nothing can be built", done.stderr)
 
     def test_without_rt_the_program_is_run_as_built_or_missed(self) -> None:
         without = {**self.env, "PATH": "/usr/bin:/bin"}
@@ -245,7 +321,32 @@ class Missing(Checkout):
         env = self.few("bash", "cat", "readlink", "python3")
         for word in ("draw", "explain"):
             done = self.run_xrf(word, run, env=env)
-            self.assertEqual((done.returncode, done.stderr), (0, ""))
+            self.assertEqual(done.returncode, 0)
+            self.assertRegex(done.stderr, "^xrf: .* was not replayed, since the program is not built.*\n$")
+
+
+def in_zsh(line: str, wanted: str) -> bool:
+    """Whether zsh makes `wanted` of a line and a tabulator, within some seconds."""
+    leader, follower = pty.openpty()
+    env = {**os.environ, "TERM": "dumb"}
+    with subprocess.Popen(["zsh", "-f", "-i"], stdin=follower, stdout=follower, stderr=follower, cwd=ROOT, env=env,
+                          start_new_session=True) as child:
+        os.close(follower)
+        os.write(leader, b"fpath=($PWD/tools/completions $fpath); autoload -U compinit; compinit -u -D; echo read''y\n")
+        found = read_until(leader, "ready")
+        os.write(leader, f"{line}\t".encode())
+        found = found and read_until(leader, wanted)
+        child.kill()
+    os.close(leader)
+    return found
+
+
+def read_until(leader: int, wanted: str) -> bool:
+    text, end = "", time.monotonic() + 30
+    while wanted not in text and time.monotonic() < end:
+        if select.select([leader], [], [], 0.5)[0]:
+            text += os.read(leader, 65536).decode("utf-8", "replace")
+    return wanted in text
 
 
 @unittest.skipUnless(shutil.which("make"), "make is missing")
@@ -261,14 +362,17 @@ class Installing(Checkout):
         done = self.run_xrf("replay", given="x", xrf=prefix / "bin/xrf")
         self.assertEqual((done.returncode, done.stdout, done.stderr), (0, "words: replay\nx\n", ""))
         self.assertEqual(self.run_xrf("build", xrf=prefix / "bin/xrf").returncode, 1)
+        self.assertEqual(self.run_xrf("--version", xrf=prefix / "bin/xrf").stdout, "xrf 0.1.0 (commit unknown, a kit logic 1234)\n")
         run = str(ROOT / "tests/rows/ordinary_unit_of_work.out")
         self.assertIn("<svg", self.run_xrf("draw", run, xrf=prefix / "bin/xrf").stdout)
         self.assertIn("committed", self.run_xrf("explain", run, xrf=prefix / "bin/xrf").stdout)
-        for name in ("share/man/man1/xrf.1", "share/bash-completion/completions/xrf"):
-            self.assertTrue((prefix / name).is_file())
+        for name in ("man/man1/xrf.1", "bash-completion/completions/xrf", "zsh/site-functions/_xrf",
+                     "fish/vendor_completions.d/xrf.fish", "doc/xrf/README.md", "doc/xrf/docs/TUTORIAL.md",
+                     "doc/xrf/examples/tutorial/step_01.in", "doc/xrf/schema/xrf-document-1.json", "doc/xrf/tools/editors/vim/syntax/xrf.vim"):
+            self.assertTrue((prefix / "share" / name).is_file(), name)
         shutil.move(self.room / "elsewhere", self.home)
         self.make("uninstall", f"PREFIX={prefix}")
-        self.assertEqual([it for it in prefix.rglob("*") if not it.is_dir()], [])
+        self.assertEqual([it for it in prefix.rglob("*") if it.is_symlink() or not it.is_dir()], [])
 
     def test_destdir_stands_before_the_prefix(self) -> None:
         self.make("install", "PREFIX=/usr", f"DESTDIR={self.room}/stage")
@@ -279,7 +383,7 @@ class Installing(Checkout):
 class Texts(unittest.TestCase):
     @unittest.skipUnless(shutil.which("shellcheck"), "shellcheck is missing")
     def test_shellcheck_has_nothing_to_say(self) -> None:
-        scripts = ["xrf", "tools/build", "tools/pictures", "tools/completions/xrf.bash", "tests/run"]
+        scripts = ["xrf", "tools/build", "tools/dist", "tools/pictures", "tools/completions/xrf.bash", "tests/run"]
         done = subprocess.run(["shellcheck", "-s", "bash", *scripts], cwd=ROOT, capture_output=True, text=True)
         self.assertEqual(done.stdout, "")
 
@@ -293,13 +397,22 @@ class Texts(unittest.TestCase):
 
     def test_every_option_of_the_tools_stands_in_the_man_page_and_the_completions(self) -> None:
         page = (ROOT / "tools/man/xrf.1").read_text().replace("\\-", "-")
-        completions = (ROOT / "tools/completions/xrf.bash").read_text()
-        for word in ("draw", "explain", "check"):
+        of_bash, of_zsh, of_fish = ((ROOT / "tools/completions" / name).read_text() for name in ("xrf.bash", "_xrf", "xrf.fish"))
+        for word in (module.__name__.rpartition(".")[2] for module in WORDS):
             done = subprocess.run([str(ROOT / "xrf"), word, "--help"], capture_output=True, text=True)
             self.assertEqual(done.returncode, 0)
-            for option in set(re.findall(r"--[a-z]+", done.stdout)) - {"--help"}:
+            for option in set(re.findall(r"--[a-z][a-z-]*", done.stdout)) - {"--help"}:
                 self.assertIn(option, page)
-                self.assertIn(option, completions)
+                self.assertRegex(of_bash, rf"(?m)^ +{word}:-\*.*[\" ]{option}[\" ]")
+                self.assertRegex(of_zsh, rf"(?m)^ +{word}\)\s.*[ ']{option}[ =']")
+                self.assertRegex(of_fish, rf"(?m)^__xrf_options {word}\b.* {option[2:]}\b")
+
+    def test_each_shell_completes_the_same_words(self) -> None:
+        of_zsh, of_fish = ((ROOT / "tools/completions" / name).read_text() for name in ("_xrf", "xrf.fish"))
+        words = [word for word in self.complete("xrf", "") if word[0] != "-"]
+        self.assertEqual(re.findall(r"^    '([a-z]+):", of_zsh, re.M), words)
+        self.assertEqual(re.findall(r"^set -l words (.*)$", of_fish, re.M), [" ".join(words)])
+        self.assertEqual(re.findall(r"^__xrf_word ([a-z]+) ", of_fish, re.M), words)
 
     def test_the_help_has_each_word_each_status_and_what_is_left_on_the_disk(self) -> None:
         told = subprocess.run([str(ROOT / "xrf"), "--help"], capture_output=True, text=True).stdout
@@ -321,12 +434,25 @@ class Texts(unittest.TestCase):
                               cwd=ROOT, capture_output=True, text=True)
         return done.stdout.split()
 
+    @unittest.skipUnless(shutil.which("fish"), "fish is missing, so its completions were not tried")
+    def test_fish_completes(self) -> None:
+        for line, wanted in (("xrf expl", "explain"), ("xrf draw --t", "--text"), ("xrf replay READ", "README.md")):
+            done = subprocess.run(["fish", "-c", f"source tools/completions/xrf.fish; complete -C '{line}'"], cwd=ROOT,
+                                  capture_output=True, text=True)
+            self.assertEqual([it.split("\t")[0] for it in done.stdout.splitlines()], [wanted], done.stderr)
+
+    @unittest.skipUnless(shutil.which("zsh"), "zsh is missing, so its completions were not tried")
+    def test_zsh_completes(self) -> None:
+        for line, wanted in (("xrf expl", "xrf explain "), ("xrf draw --te", "xrf draw --text "), ("xrf replay READ", "xrf replay README.md ")):
+            self.assertTrue(in_zsh(line, wanted), line)
+
     def test_words_options_files_and_folders_are_completed(self) -> None:
         self.assertEqual(self.complete("xrf", "re"), ["replay"])
         self.assertEqual(self.complete("xrf", "draw", "--t"), ["--text"])
         self.assertEqual(self.complete("xrf", "check", "--ac"), ["--accept"])
         self.assertEqual(self.complete("xrf", "replay", "READ"), ["README.md"])
         self.assertEqual(self.complete("xrf", "check", "tes"), ["tests"])
+        self.assertEqual(self.complete("xrf", "help", "exp"), ["explain"])
 
 
 if __name__ == "__main__":

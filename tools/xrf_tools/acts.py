@@ -4,10 +4,8 @@ import re
 from dataclasses import dataclass, field
 
 from xrf_tools.errors import Fault
+from xrf_tools.language import NAME, NUMBER, VALUE
 
-NUMBER = r"(?:0|[1-9]\d{0,9})"
-NAME = r"[A-Z0-9@#$]{1,8}"
-VALUE = r"[!-~]{1,24}"
 UNIT = rf"{NUMBER}\.{NUMBER}"
 
 CONTROL = (

@@ -6,17 +6,20 @@ none); NAME.out, the whole output; and NAME.status (0 where there is none). A do
 is the rest: the scenario, and the report without its ACT lines.
 """
 
+from __future__ import annotations
+
 import gzip
-import os
 import subprocess
 import time
 from collections.abc import Iterator
 from concurrent.futures import ThreadPoolExecutor
-from dataclasses import dataclass
+from dataclasses import dataclass, field
 from pathlib import Path
 from xml.etree import ElementTree
 
+from xrf_tools import differing
 from xrf_tools.errors import Fault
+from xrf_tools.running import Running
 
 
 @dataclass(frozen=True)
@@ -37,6 +40,16 @@ class Result:
     kind: str
     seconds: float
     why: str = ""
+    lines: tuple[str, ...] = ()
+
+
+@dataclass(frozen=True)
+class Outcome:
+    """How a scenario came out, why, and the lines that differ."""
+
+    kind: str
+    why: str = ""
+    lines: tuple[str, ...] = ()
 
 
 @dataclass(frozen=True)
@@ -46,38 +59,48 @@ class Checking:
     program: str
     seconds: float
     accepts: bool
+    running: Running = field(default_factory=Running)
 
     def run(self, words: list[str], data: bytes) -> Ran:
         began = time.monotonic()
-        done = subprocess.run([self.program, *words], input=data, stdout=subprocess.PIPE, stderr=subprocess.DEVNULL,
-                              timeout=self.seconds, check=False)
-        return Ran(done.stdout, done.returncode, time.monotonic() - began)
+        output, status = self.running.run([self.program, *words], data, self.seconds)
+        return Ran(output, status, time.monotonic() - began)
 
     def check(self, place: Path) -> Result:
         """Runs the scenario whose files begin with `place`."""
         began = time.monotonic()
         try:
-            kind, why = self.outcome(place)
+            outcome = self.outcome(place)
         except subprocess.TimeoutExpired:
-            kind, why = "failed", f"it took more than {self.seconds:g} seconds"
+            outcome = Outcome("failed", f"it took more than {self.seconds:g} seconds")
         except (OSError, EOFError, ValueError) as error:
-            kind, why = "failed", f"it could not be run: {error}"
-        return Result(str(place.parent), place.name, kind, time.monotonic() - began, why)
+            outcome = Outcome("failed", f"it could not be run: {error}")
+        seconds = time.monotonic() - began
+        return Result(str(place.parent), place.name, outcome.kind, seconds, outcome.why, outcome.lines)
 
-    def outcome(self, place: Path) -> tuple[str, str]:
+    def outcome(self, place: Path) -> Outcome:
         words, data = words_of(place), input_of(place)
         ran = self.run(words, data)
         stored = beside(place, ".out")
         if stored.exists():
-            got = Ran(settled(words, ran.output), ran.status, ran.seconds)
-            why = difference(got, settled(words, stored.read_bytes()), status_of(place)) or self.again(words, ran)
-            return ("failed", why) if why else ("passed", "")
+            return self.compared(words, ran, stored.read_bytes(), status_of(place))
         if self.accepts and ran.status >= 0:
             stored.write_bytes(ran.output)
             if ran.status != 0:
                 beside(place, ".status").write_text(f"{ran.status}\n")
-            return "accepted", f"stored as {stored.name}, status {ran.status}"
-        return "new", f"nothing is stored; its status is {ran.status}"
+            return Outcome("accepted", f"stored as {stored.name}, status {ran.status}")
+        return Outcome("new", f"nothing is stored; its status is {ran.status}")
+
+    def compared(self, words: list[str], ran: Ran, stored: bytes, status: int) -> Outcome:
+        got, wanted = settled(words, ran.output), settled(words, stored)
+        lines = tuple(differing.shown(got, wanted)) if got != wanted else ()
+        if ran.status != status:
+            return Outcome("failed", f"status {ran.status}, wanted {status}", lines)
+        why = differing.told(got, wanted)
+        if why:
+            return Outcome("failed", why, lines)
+        again = self.again(words, ran)
+        return Outcome("failed", again) if again else Outcome("passed")
 
     def again(self, words: list[str], ran: Ran) -> str:
         """Why the document does not replay to itself, or nothing."""
@@ -115,41 +138,44 @@ def settled(words: list[str], output: bytes) -> bytes:
     return b"\n".join(lines[:lines.index(b"CHOICES")] + behind)
 
 
-def difference(ran: Ran, wanted: bytes, status: int) -> str:
-    """What differs of the status or the output, or nothing."""
-    if ran.status != status:
-        return f"status {ran.status}, wanted {status}"
-    if ran.output == wanted:
-        return ""
-    got, want = ran.output.split(b"\n"), wanted.split(b"\n")
-    for number, (one, other) in enumerate(zip(got, want), 1):
-        if one != other:
-            return f"line {number} is {shown(one)}, wanted {shown(other)}"
-    return f"{len(got) - 1} lines, wanted {len(want) - 1}"
-
-
-def shown(line: bytes) -> str:
-    text = line[:80].decode("ascii", "backslashreplace")
-    return repr(text) + ("…" if len(line) > 80 else "")
-
-
-def scenarios(folders: list[str]) -> list[Path]:
-    """The scenarios of the folders, by name; Fault where a folder has none."""
+def scenarios(places: list[str]) -> list[Path]:
+    """The scenarios of folders, by name, and those that are named by one of their files; Fault where there is none."""
     found = []
-    for folder in folders:
-        if not Path(folder).is_dir():
-            raise Fault(f"{folder} is no folder")
-        names = {file.name.removesuffix(".gz").removesuffix(".in") for end in (".in", ".in.gz")
-                 for file in Path(folder).glob(f"*{end}")}
+    for place in places:
+        path = Path(place)
+        if not path.is_dir():
+            found.append(named(path))
+            continue
+        names = {name_of(file) for end in (".in", ".in.gz") for file in path.glob(f"*{end}")}
         if not names:
-            raise Fault(f"{folder} has no scenario NAME.in")
-        found += [Path(folder) / name for name in sorted(names)]
-    return found
+            raise Fault(f"{place} has no scenario NAME.in")
+        found += [path / name for name in sorted(names)]
+    return list(dict.fromkeys(found))
+
+
+def name_of(file: Path) -> str:
+    """The name of the scenario of one of its files."""
+    name = file.name[: -len(".gz")] if file.name.endswith(".in.gz") else file.name
+    return next((name[: -len(end)] for end in (".in", ".out", ".args", ".status") if name.endswith(end)), name)
+
+
+def named(file: Path) -> Path:
+    place = file.with_name(name_of(file))
+    if not any(beside(place, end).is_file() for end in (".in", ".in.gz")):
+        raise Fault(f"{file} is no folder and no scenario: there is no {place}.in")
+    return place
 
 
 def check_all(checking: Checking, places: list[Path], jobs: int) -> list[Result]:
-    with ThreadPoolExecutor(jobs or os.cpu_count() or 1) as pool:
-        return list(pool.map(checking.check, places))
+    """Checks the scenarios, so many at a time; where it is interrupted, all that runs is ended at once."""
+    with ThreadPoolExecutor(jobs) as pool:
+        waiting = [pool.submit(checking.check, place) for place in places]
+        try:
+            return [one.result() for one in waiting]
+        except BaseException:
+            pool.shutdown(wait=False, cancel_futures=True)
+            checking.running.end_all()
+            raise
 
 
 def table(results: list[Result], is_quiet: bool) -> Iterator[str]:
@@ -159,11 +185,14 @@ def table(results: list[Result], is_quiet: bool) -> Iterator[str]:
     for result in told:
         why = f": {result.why}" if result.why else ""
         yield f"{result.folder + '/' + result.name:{width}}  {result.seconds:6.2f} s  {result.kind}{why}"
+        yield from (f"    {line}" for line in result.lines)
     counts = {kind: sum(result.kind == kind for result in results) for kind in ("passed", "failed", "new", "accepted")}
     more = [f"{counts[kind]} {kind}" for kind in ("new", "accepted") if counts[kind]]
     yield ", ".join([f"{counts['passed']} passed", f"{counts['failed']} failed", *more])
     if counts["new"]:
         yield "what is new has no stored output; --accept stores it"
+    if counts["failed"]:
+        yield "to store an output anew, take its NAME.out and NAME.status away; --accept stores what is written then"
 
 
 def junit(results: list[Result]) -> str:
@@ -171,11 +200,11 @@ def junit(results: list[Result]) -> str:
     suites = ElementTree.Element("testsuites")
     for folder in dict.fromkeys(result.folder for result in results):
         of_folder = [result for result in results if result.folder == folder]
-        suite = ElementTree.SubElement(suites, "testsuite", name=folder, **counted(of_folder))
+        suite = ElementTree.SubElement(suites, "testsuite", {"name": folder, **counted(of_folder)})
         for result in of_folder:
             case = ElementTree.SubElement(suite, "testcase", classname=folder, name=result.name, time=f"{result.seconds:.3f}")
             if result.kind == "failed":
-                ElementTree.SubElement(case, "failure", message=result.why)
+                ElementTree.SubElement(case, "failure", message=result.why).text = "\n".join(result.lines or [result.why])
             elif result.kind != "passed":
                 ElementTree.SubElement(case, "skipped", message=result.why)
     ElementTree.indent(suites)

@@ -27,6 +27,7 @@ def land(standing: Standing, job: Job, act: Act) -> None:
         if act.lands:
             counters = f"{job.incarnation} {act.words['counter']} {act.words['cursor']}"
             standing.show(f"signal {act.writes} {job.site}", counters)
+            standing.signalled[job.site] = standing.tick
     elif verb in ("FILEWRITE", "UNDO"):
         land_file(standing, job, act)
     elif act.writes:

@@ -1,5 +1,13 @@
-"""The one error of the tools."""
+"""What goes wrong in a tool and is told in one line."""
 
 
 class Fault(Exception):
-    """What a user has to know, in one line; the tool ends with status 1."""
+    """A text for the user; the tool ends with its status."""
+
+    status = 1
+
+
+class OutputFault(Fault):
+    """What is written could not be written to its end."""
+
+    status = 20

@@ -10,7 +10,7 @@ from xrf_tools.layouts import OPEN
 
 if TYPE_CHECKING:
     from xrf_tools.document import Entry
-    from xrf_tools.standing import Put, Standing
+    from xrf_tools.standing import Control, Put, Standing
 
 MOST_ROWS = 64
 OTHER = {"A": "B", "B": "A"}
@@ -50,7 +50,12 @@ class Job:
     expected: int = 0
     item: int = 0
     begun: int = 0
+    mode: str = ""
+    is_watching: bool = True
+    has_asked: bool = False
     change: int = 0
+    news: str = ""
+    seen: Control | None = None
     look: tuple[str, str] | None = None
     first_look: str = ""
     units: dict[str, Unit] = field(default_factory=dict)
@@ -119,25 +124,38 @@ def control_write(standing: Standing, job: Job, act: Act) -> None:
     record = standing.control
     if not job.incarnation:
         job.incarnation = record.last
-        job.change = standing.tick
+        begin_anew(standing, job, "it signed on")
         standing.tell("granted", job.site, job.role, job.incarnation)
     job.is_owner = job.is_owner or record.owner == job.incarnation
     if record.taking == job.incarnation and not job.is_owner:
         job.is_waiting = True
 
 
+def begin_anew(standing: Standing, job: Job, news: str) -> None:
+    """From this tick on the job counts the silence of the other site: it has seen news, or was told to."""
+    job.change, job.news = standing.tick, news
+
+
+def is_missed(standing: Standing, job: Job) -> bool:
+    """Whether no news of the other site has come for the interval of the job."""
+    return standing.tick - job.change >= standing.scenario.numbers["PDI" if job.is_owner else "ADI"]
+
+
 def look_first(standing: Standing, job: Job, act: Act) -> None:
+    job.seen = standing.control
     job.first_look = standing.shown.get(f"signal CTL {OTHER[job.site]}", "")
 
 
 def look_second(standing: Standing, job: Job, act: Act) -> None:
     look = job.first_look, standing.shown.get(f"signal MSG {OTHER[job.site]}", "")
     if look != job.look:
-        job.look, job.change = look, standing.tick
+        begin_anew(standing, job, "it saw a new signal" if job.look else "it looked for the first time")
+        job.look = look
 
 
 def decide(standing: Standing, job: Job, act: Act) -> None:
     job.decision = act.words["decision"]
+    job.has_asked = job.decision == "ASK" or job.has_asked and is_missed(standing, job)
     if job.decision == "END":
         job.is_ending = True
     elif job.decision == "SEEN":
@@ -147,7 +165,8 @@ def decide(standing: Standing, job: Job, act: Act) -> None:
     elif job.decision == "NOTHING":
         job.has_go = False
     elif job.decision == "CATCHUP":
-        job.epoch, job.change = int(act.words.get("what", "0")), standing.tick
+        job.epoch = int(act.words.get("what", "0"))
+        begin_anew(standing, job, "it found it")
     elif job.decision == "FORGET":
         job.epoch = 0
 
@@ -165,7 +184,7 @@ def leave_exit(standing: Standing, job: Job, act: Act) -> None:
     elif answer == "DROP":
         job.is_dropping = True
     else:
-        job.change = standing.tick
+        begin_anew(standing, job, "the exit answered KEEP")
 
 
 def abend(standing: Standing, job: Job, act: Act) -> None:
@@ -175,12 +194,20 @@ def abend(standing: Standing, job: Job, act: Act) -> None:
 def reply(standing: Standing, job: Job, act: Act) -> None:
     job.has_go = act.words["answer"] == "GO"
     if not job.has_go:
-        job.change = standing.tick
+        job.has_asked = False
+        begin_anew(standing, job, "the operator replied IGNORE")
 
 
 def command(standing: Standing, job: Job, act: Act) -> None:
-    if act.words["command"] == "SET SURVEILLANCE ON":
-        job.change = standing.tick
+    verb, what, *mode = act.words["command"].split(" ")
+    if verb != "SET":
+        return
+    if what == "TAKEOVER":
+        job.mode = mode[0]
+    else:
+        job.is_watching = mode == ["ON"]
+        if job.is_watching:
+            begin_anew(standing, job, "surveillance was set ON")
 
 
 def read_message(standing: Standing, job: Job, act: Act) -> None:
@@ -248,9 +275,9 @@ def do_item(standing: Standing, job: Job, words: list[str]) -> None:
     verb, name = words[0], words[1]
     if verb == "BEGIN":
         job.begun += 1
-        unit = job.units[name] = Unit(f"{job.incarnation}.{job.begun}", name)
-        standing.show(f"unit {unit.key}", f"{name} open")
-        standing.tell("unit-begun", job.site, unit.key, name)
+        begun = job.units[name] = Unit(f"{job.incarnation}.{job.begun}", name)
+        standing.show(f"unit {begun.key}", f"{name} open")
+        standing.tell("unit-begun", job.site, begun.key, name)
     elif verb in ("COMMIT", "ROLL"):
         unit = job.units.get(name)
         if unit and unit.key not in standing.log.flight:

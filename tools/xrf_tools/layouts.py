@@ -4,10 +4,12 @@ The tables are those of docs/FORMATS.md. Numbers are big-endian; a byte that no 
 one spelling, so a body is read by its fields and then compared with what these spell.
 """
 
+from __future__ import annotations
+
 import re
 from dataclasses import dataclass
 
-from xrf_tools.acts import NAME, VALUE
+from xrf_tools.language import NAME, VALUE
 
 OPEN = 0xC1
 STATES = ("RUNNING", "NORMAL", "ABEND", "TAKEOVER")

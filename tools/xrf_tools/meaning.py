@@ -4,12 +4,15 @@
 what stood before the act and what stands behind it.
 """
 
+from __future__ import annotations
+
+from collections.abc import Callable
 from dataclasses import dataclass, replace
 
 from xrf_tools.acts import Act
 from xrf_tools.devices import message_text
 from xrf_tools.document import Entry
-from xrf_tools.jobs import OTHER, Job
+from xrf_tools.jobs import OTHER, Job, is_missed
 from xrf_tools.layouts import OPEN
 from xrf_tools.standing import Control, Event, Standing
 
@@ -29,7 +32,6 @@ ENDINGS = {
     "NOACTIVE": "there is no active that runs", "SIGNEDOFF": "it has signed off", "DROPPED": "the active has dropped it",
     "NORMAL": "the active ended normally, so there is nothing to take over", "SHUTDOWN": "it was told to shut down",
     "ABANDONED": "its takeover came too late", "MSGERROR": "it could not read a message",
-    "FORMAT": "the control record is of a format that its level does not read",
 }
 PATHS = {"CTL": "control", "MSG": "message"}
 
@@ -59,7 +61,7 @@ class Moment:
 def tell(standing: Standing, entry: Entry) -> str:
     """Makes the entry and tells it."""
     job = standing.jobs.get(entry.site)
-    before = replace(job) if job else Job(entry.site, "")
+    before = replace(job, table=dict(job.table)) if job else Job(entry.site, "")
     record = entry.act.words.get("record", "0")
     value = str(standing.cell(int(record)))
     control = standing.control
@@ -121,6 +123,12 @@ def start(m: Moment) -> str:
 
 
 def control_write(m: Moment) -> str:
+    changed = m.standing.control.format != m.control.format
+    return written(m) + (f" The record is of format {m.standing.control.format} from here on." if changed else "")
+
+
+def written(m: Moment) -> str:
+    """What a write of the control record is for."""
     record, was, site = m.standing.control, m.control, m.site
     if not m.job.incarnation:
         if record.owner == record.last:
@@ -162,8 +170,9 @@ def decide(m: Moment) -> str:
         return f"{site} decides to take over{started(m, what)}."
     if decision == "END":
         return f"{site} decides to leave: {ENDINGS.get(what, 'it is done')}."
+    if decision == "NOTHING":
+        return f"{site} decides that nothing is to be done: {why_nothing(m)}."
     return {
-        "NOTHING": f"{site} decides that nothing is to be done.",
         "ASK": f"{missed(m, other, 'ADI')}: it asks the operator whether to take over.",
         "WAIT": f"{site} waits: it is not known that the owner has ended.",
         "THROUGH": f"{site} decides to go through: {why_through(m)}.",
@@ -172,6 +181,37 @@ def decide(m: Moment) -> str:
         "FORGET": f"{site} finds its alternate gone from the record, and forgets it.",
         "LOST": f"{missed(m, 'its alternate', 'PDI')}; its status exit is asked.",
     }[decision]
+
+
+def why_nothing(m: Moment) -> str:
+    """Why a round came to nothing, by what the job has seen."""
+    job, record = m.job, m.job.seen or m.control
+    if job.is_owner:
+        return heard(m, "its alternate", "PDI") if record.alternate else "there is no alternate"
+    if record.owner_state != "RUNNING":
+        return f"the owner has signed off, but under TAKEOVR {job.mode} a takeover wants a command"
+    if not is_missed(m.standing, job):
+        return heard(m, OTHER[m.site], "ADI")
+    so_far = missed(m, OTHER[m.site], "ADI").replace(m.site, "it", 1)
+    if not job.is_watching:
+        return f"{so_far}, but surveillance is OFF"
+    if job.mode == "COMMAND":
+        return f"{so_far}, but under TAKEOVR COMMAND a takeover wants a command"
+    return f"{so_far}, but the operator, who was asked, has not replied GO"
+
+
+def heard(m: Moment, whom: str, interval: str) -> str:
+    """What the job has heard of the other site for less than its interval."""
+    now, job, seconds = m.standing.tick, m.job, m.standing.scenario.numbers[interval]
+    if job.change < now:
+        passed = now - job.change
+        return (f"it has seen no new signal of {whom} since tick {job.change}, and {passed} of the {seconds} seconds of its "
+                f"{interval} {'has' if passed == 1 else 'have'} passed")
+    signalled = m.standing.signalled[OTHER[m.site]]
+    if job.news == "it saw a new signal" and 0 <= signalled < now:
+        return (f"it sees a signal that {whom} wrote in tick {signalled} and that it had not seen yet, so that its {interval} of "
+                f"{seconds} seconds begins anew")
+    return f"in this second {job.news}{f' of {whom}' if job.news.endswith('signal') else ''}"
 
 
 def missed(m: Moment, whom: str, interval: str) -> str:
@@ -188,7 +228,7 @@ def started(m: Moment, cause: str) -> str:
 
 
 def why_through(m: Moment) -> str:
-    record = m.standing.control
+    record = m.job.seen or m.control
     if record.owner_state != "RUNNING":
         return "the owner has signed off"
     return f"it is confirmed that incarnation {record.owner} has ended"
@@ -259,19 +299,35 @@ def restarted(m: Moment) -> str:
     event = m.event("restarted")
     text = f"{m.site} has restarted: the file holds what was committed, and nothing else"
     if event and event.words:
-        text += "; of its terminals, " + ", ".join(settled(word) for word in event.words)
+        text += "; of its terminals, " + ", ".join(settled(m, word) for word in event.words)
     return text + "."
 
 
-def settled(text: str) -> str:
+def settled(m: Moment, text: str) -> str:
+    """What becomes of a terminal, and of the user who is signed on there."""
     terminal, how = text.split(" ")
-    return f"{terminal} is {'switched' if how == 'SWITCHED' else 'acquired again'}"
+    user = m.job.table[terminal].user
+    told = "" if user == "-" else f", and its user {user} is signed off" if m.standing.scenario.force else f" with its user {user}"
+    return f"{terminal} is {'switched' if how == 'SWITCHED' else 'acquired again'}{told}"
 
 
 def ended(m: Moment) -> str:
-    why = m.words["why"]
-    told = f"incarnation {m.words.get('by', '?')} is there still" if why == "REFUSED" else ENDINGS[why]
+    why, scenario = m.words["why"], m.standing.scenario
+    told = ENDINGS.get(why, "")
+    if why == "REFUSED":
+        told = refused_by(m, int(m.words["by"]))
+    elif why == "FORMAT":
+        told = f"the control record is of format {m.control.format}, which its level {scenario.level[m.site]} does not read"
     return f"{m.site} ends: {told}."
+
+
+def refused_by(m: Moment, incarnation: int) -> str:
+    """Why a start found its place taken."""
+    if any(job and job.incarnation == incarnation for job in m.standing.jobs.values()):
+        return f"incarnation {incarnation} is there still"
+    role = "owner" if m.control.owner == incarnation else "alternate"
+    return (f"the control record names incarnation {incarnation} as the {role}, and though it is gone, nobody has confirmed "
+            f"that it ended (CONFIRM {incarnation})")
 
 
 def exit_said(m: Moment) -> str:
@@ -286,12 +342,12 @@ def reply(m: Moment) -> str:
     return f"The operator replies IGNORE: {m.site} watches on, and its ADI begins anew."
 
 
-def says(text: str):
+def says(text: str) -> Callable[[Moment], str]:
     """A sentence with the site as {s}, the other as {o}, and the words of the act."""
     return lambda m: text.format(s=m.site, o=OTHER.get(m.site, ""), **m.words)
 
 
-CALLS = {
+CALLS: dict[str, Callable[[Moment], str]] = {
     "TICK": tick, "CONFIRM": confirm, "START": start, "CTLWRITE": control_write, "SIGNAL1": signal, "SIGNAL2": signal,
     "LOOK2": look_second, "DECIDE": decide, "MSGREAD": message_read, "MSGBODY": message_body, "MSGOPEN": message_open,
     "LOGBODY": log_body, "LOGOPEN": log_open, "UNDO": undo, "ITEM": item, "RESTARTED": restarted, "ENDED": ended,

@@ -4,6 +4,8 @@
 as 'file 3' or 'control'; what an entry changed of it is in `changes`, and what it came to in `events`.
 """
 
+from __future__ import annotations
+
 from dataclasses import dataclass, field
 
 from xrf_tools import devices, jobs
@@ -101,6 +103,7 @@ class Standing:
         self.before: dict[int, Cell] = {}
         self.log = Log()
         self.file = {record: Cell(value) for record, value in self.scenario.records.items()}
+        self.signalled = {"A": -1, "B": -1}
         self.shown: dict[str, str] = {}
         self.changes: dict[str, str] = {}
         self.events: list[Event] = []
@@ -152,7 +155,7 @@ class Standing:
     def start(self, site: str, role: str) -> None:
         if self.jobs[site]:
             raise Fault(f"a region is at {site} already")
-        self.jobs[site] = Job(site, role)
+        self.jobs[site] = Job(site, role, mode=self.scenario.takeovr)
         self.tell("started", site, role)
         self.show_job(site)
 

@@ -1,10 +1,13 @@
 """A run told in sentences: act by act, or summed up."""
 
+from __future__ import annotations
+
 import textwrap
 from collections.abc import Iterator
 from dataclasses import dataclass, field
 
 from xrf_tools.document import Document, Entry
+from xrf_tools.jobs import OTHER, Row
 from xrf_tools.layouts import EMPTY
 from xrf_tools.meaning import ANSWERS, tell
 from xrf_tools.standing import Event, Put, Standing
@@ -62,13 +65,21 @@ class Teller:
             self.happen(entry, sentence)
         elif act.how == "lost":
             self.lost_signal(entry)
-        elif act.verb == "DECIDE" and act.words["decision"] not in QUIET:
+        elif act.verb == "DECIDE" and (act.words["decision"] not in QUIET or self.is_late(entry)):
             self.happen(entry, sentence)
         elif act.verb == "ITEM":
             self.item(entry, sentence)
         self.saw(entry, sentence)
         for event in self.standing.events:
             self.event(entry, event, sentence, flight)
+
+    def is_late(self, entry: Entry) -> bool:
+        """Whether a tracking alternate decides NOTHING though the owner is gone, and has not signalled for its ADI."""
+        job, other = self.standing.jobs[entry.site], OTHER[entry.site]
+        is_gone = self.standing.jobs[other] is None and self.standing.control.owner_state == "RUNNING"
+        if job is None or job.is_owner or job.is_waiting or not is_gone:
+            return False
+        return self.standing.tick - self.standing.signalled[other] >= self.standing.scenario.numbers["ADI"]
 
     def lost_signal(self, entry: Entry) -> None:
         """The first of several lost signals is told."""
@@ -96,7 +107,8 @@ class Teller:
             self.happen(entry, sentence)
         elif event.kind == "message-taken" and event.words[1].startswith("END "):
             rows = len(self.standing.job(entry.site).table)
-            self.happen(entry, f"{entry.site} has read the whole catch-up: {rows} terminals stand in its table.")
+            stand = "1 terminal stands" if rows == 1 else f"{rows} terminals stand"
+            self.happen(entry, f"{entry.site} has read the whole catch-up: {stand} in its table.")
 
     def why(self, event: Event) -> str:
         """Why a takeover started: the last START that was decided."""
@@ -105,7 +117,7 @@ class Teller:
 
     def unit_ended(self, entry: Entry, unit: str, how: str, puts: list[Put]) -> None:
         records = sorted({put.record for put in puts})
-        values = ", ".join(f"record {record} is {self.standing.cell(record) or 'empty'}" for record in records)
+        values = ", ".join(f"record {record} is {str(self.standing.cell(record)) or 'empty'}" for record in records)
         name = f"{self.names.get(unit, 'a unit')} ({unit})"
         done = "is committed" if how == "COMMIT" else "is backed out"
         text = f"Unit {name} {done}: {values or 'it has no records'}."
@@ -145,10 +157,19 @@ def heading(document: Document) -> Iterator[str]:
     scenario = document.scenario
     numbers, applid = scenario.numbers, scenario.applid
     yield (f"{applid['A']} is at site A and {applid['B']} at site B; TAKEOVR {scenario.takeovr}, ADI {numbers['ADI']}, "
-           f"PDI {numbers['PDI']}, a file of {numbers['FILE']} records.")
-    work = [f"{len(items)} items of work at {site}" for site, items in scenario.work.items() if items]
+           f"PDI {numbers['PDI']}, a file of {counted(numbers['FILE'], 'record')}.")
+    if scenario.format == 2:
+        users = "signed off" if scenario.force else "kept"
+        yield (f"It is under XRF 2: the region of A is of level {scenario.level['A']} and that of B of level "
+               f"{scenario.level['B']}; at a takeover users are {users}, XRFSOFF {'FORCE' if scenario.force else 'NOFORCE'}.")
+    work = [f"{counted(len(items), 'item')} of work at {site}" for site, items in scenario.work.items() if items]
     if work:
-        yield f"There are {' and '.join(work)}."
+        is_one = sum(map(len, scenario.work.values())) == 1
+        yield f"There {'is' if is_one else 'are'} {' and '.join(work)}."
+
+
+def counted(number: int, word: str) -> str:
+    return f"{number} {word}" + ("" if number == 1 else "s")
 
 
 def by_acts(document: Document) -> Iterator[str]:
@@ -188,6 +209,10 @@ def section(title: str, lines: list[str]) -> Iterator[str]:
         yield from (wrapped("  - ", line) for line in lines)
 
 
+def terminal(name: str, row: Row) -> str:
+    return f"{name} {row.how.lower()}" + ("" if row.user == "-" else f" with its user {row.user}")
+
+
 def ending(standing: Standing) -> Iterator[str]:
     """What stands at the end of the run."""
     record = standing.control
@@ -195,12 +220,14 @@ def ending(standing: Standing) -> Iterator[str]:
         yield "There is no owner."
     else:
         yield f"Incarnation {record.owner} at {record.owner_site} {OWNERS[record.owner_state]}."
+    if standing.scenario.format == 2:
+        yield f"The control record is of format {record.format}."
     if record.taking:
         yield f"Incarnation {record.taking} at {record.alternate_site} is taking over: {record.cause}."
     for site, job in standing.jobs.items():
         yield f"{site}: incarnation {job.incarnation}, {STATES[job.state]}." if job else f"{site}: no region."
         if job and job.table:
-            rows = ", ".join(f"{name} {row.how.lower()}" for name, row in sorted(job.table.items()))
+            rows = ", ".join(terminal(name, row) for name, row in sorted(job.table.items()))
             yield f"Terminals of {site}: {rows}."
     log = standing.log
     yield f"Units of work: {log.committed} committed, {len(log.flight)} in flight."

@@ -1,5 +1,24 @@
 """The imports of a worked run's spec file."""
+
+from __future__ import annotations
+
 import re
+from collections.abc import Sequence
+from typing import Protocol
+
+
+class Shared(Protocol):
+    """A beginning that runs share: its name, and the file and the crate in which it stands."""
+
+    @property
+    def name(self) -> str: ...
+
+    @property
+    def file(self) -> str: ...
+
+    @property
+    def crate(self) -> str: ...
+
 
 IMPORTS = """std.specs.Prelude.{true, false, List, [], ◌∷◌, ◌++◌, replicate, codes, Some, None}
 xrf_base.specs.declared.site.Site.TheVariants as site
@@ -36,20 +55,25 @@ xrf_trace.specs.declared.entry.Who.TheVariants as who
 xrf_examples.specs.Making.{Told, entry_of, owner_of, alt_of, taking_of, unit_of}"""
 
 
-def used(text, beginnings):
+def used(text: str, beginnings: Sequence[Shared]) -> str:
     """The lines of the imports that a text needs, of the definitions and of the beginnings."""
     text = re.sub(r'"(\\.|[^"\\])*"', "", text)
-    words = set(re.findall(r"[\w.]+", text)) | {f"◌{sign}◌" for sign in ("∷", "++") if f" {sign}" in text} | {"[]"} & set(re.findall(r"\[\]", text))
+    signs = {f"◌{sign}◌" for sign in ("∷", "++") if f" {sign}" in text}
+    words = set(re.findall(r"[\w.]+", text)) | signs | {"[]"} & set(re.findall(r"\[\]", text))
     paths = {word.split(".")[0] for word in words if "." in word}
-    lines = []
-    for line in IMPORTS.split("\n"):
-        alias, names = re.search(r" as (\w+)$", line), re.search(r"\{(.*)\}$", line)
-        kept = [name for name in names[1].split(", ") if name in words] if names else []
-        if (alias and alias[1] in paths) or kept:
-            lines.append(line if alias else line[: names.start()] + "{" + ", ".join(kept) + "}")
+    lines = [line for imported in IMPORTS.split("\n") if (line := kept_of(imported, words, paths))]
     for crate, file in sorted({(beginning.crate, beginning.file) for beginning in beginnings}):
         names = [name for b in reversed(beginnings) if b.file == file for name in (b.name, f"to_{b.name}")]
         kept = [name for name in names if name in words]
         if kept:
             lines.append(f"{crate}.specs.{file}.{{{', '.join(kept)}}}")
     return "\n".join(f"use Rattle.{line}" for line in lines)
+
+
+def kept_of(line: str, words: set[str], paths: set[str]) -> str:
+    """What of an import is needed for these words and paths; '' for nothing."""
+    alias, names = re.search(r" as (\w+)$", line), re.search(r"\{(.*)\}$", line)
+    if alias:
+        return line if alias[1] in paths else ""
+    kept = [name for name in names[1].split(", ") if name in words] if names else []
+    return line[: names.start()] + "{" + ", ".join(kept) + "}" if names and kept else ""

@@ -1,0 +1,1 @@
+"""The words of the launcher that are tools, a module each."""

@@ -7,6 +7,8 @@ _xrf_words=(
   explain
   check
   follow
+  diff
+  shrink
   json
   coverage
   build
@@ -30,9 +32,11 @@ _xrf() {
     explain:-*) mapfile -t COMPREPLY < <(compgen -W "--acts --help" -- "$word") ;;
     check:-*) mapfile -t COMPREPLY < <(compgen -W "--accept --strict --junit --program --jobs --timeout --quiet --help" -- "$word") ;;
     follow:-*) mapfile -t COMPREPLY < <(compgen -W "--help" -- "$word") ;;
+    diff:-*) mapfile -t COMPREPLY < <(compgen -W "--help" -- "$word") ;;
+    shrink:-*) mapfile -t COMPREPLY < <(compgen -W "--keep --help" -- "$word") ;;
     json:-*) mapfile -t COMPREPLY < <(compgen -W "--lines --back --help" -- "$word") ;;
     coverage:-*) mapfile -t COMPREPLY < <(compgen -W "--missing --json --xml --html --fail-under --help" -- "$word") ;;
-    replay:* | run:* | draw:* | explain:* | follow:* | json:* | check:* | coverage:*) mapfile -t COMPREPLY < <(compgen -f -- "$word") ;;
+    replay:* | run:* | draw:* | explain:* | follow:* | diff:* | shrink:* | json:* | check:* | coverage:*) mapfile -t COMPREPLY < <(compgen -f -- "$word") ;;
   esac
 }
 complete -o filenames -F _xrf xrf ./xrf

@@ -1,5 +1,5 @@
 # Completion of xrf for fish.
-set -l words replay run drive draw explain check follow json coverage build help version
+set -l words replay run drive draw explain check follow diff shrink json coverage build help version
 function __xrf_word --argument-names word about
     complete -c xrf -f -n "not __fish_seen_subcommand_from $argv[3..]" -a $word -d $about
 end
@@ -10,6 +10,8 @@ __xrf_word draw 'a picture of a run' $words
 __xrf_word explain 'a run told in sentences, or why an input is refused' $words
 __xrf_word check 'runs each scenario of a folder and compares with its stored output' $words
 __xrf_word follow 'whether a log is a run of the model' $words
+__xrf_word diff 'the first act at which two runs part, and how both end' $words
+__xrf_word shrink 'the smallest scenario that still shows something' $words
 __xrf_word json 'a run as data' $words
 __xrf_word coverage 'what the scenarios of a folder have shown, and what they have not' $words
 __xrf_word build 'proves and builds the program' $words
@@ -33,6 +35,8 @@ __xrf_options draw text svg acts= width= output= help
 __xrf_options explain acts help
 __xrf_options check accept strict junit= program= jobs= timeout= quiet help
 __xrf_options follow help
+__xrf_options diff help
+__xrf_options shrink keep= help
 __xrf_options json lines back help
 __xrf_options coverage missing json= xml= html= fail-under= help
 functions -e __xrf_options

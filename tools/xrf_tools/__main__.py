@@ -7,15 +7,17 @@ import sys
 from xrf_tools.command_line import Parser
 from xrf_tools.errors import Fault, OutputFault
 from xrf_tools.output import say
-from xrf_tools.words import check, coverage, draw, explain, follow, json
+from xrf_tools.words import check, coverage, diff, draw, explain, follow, json, shrink
 
 WORDS = (
     check,
     coverage,
+    diff,
     draw,
     explain,
     follow,
     json,
+    shrink,
 )
 
 

@@ -11,6 +11,7 @@ from xrf_tools.jobs import OTHER, Row
 from xrf_tools.layouts import EMPTY
 from xrf_tools.meaning import ANSWERS, tell
 from xrf_tools.standing import Event, Put, Standing
+from xrf_tools.times import Watch
 
 WIDTH = 100
 # Acts that are told of their own; of the others some are told where they come to something.
@@ -42,6 +43,7 @@ class Teller:
     def __init__(self, document: Document) -> None:
         self.document = document
         self.standing = Standing(document)
+        self.watches = [Watch(self.standing, site) for site in OTHER]
         self.story = Story()
         self.names: dict[str, str] = {}
         self.puts: dict[str, list[Put]] = {}
@@ -54,6 +56,8 @@ class Teller:
                 flight = {unit: list(puts) for unit, puts in self.standing.log.flight.items()}
             sentence = tell(self.standing, entry)
             self.took(entry, sentence, flight)
+            for watch in self.watches:
+                watch.take(entry)
         return self.story
 
     def happen(self, entry: Entry, sentence: str) -> None:
@@ -198,6 +202,7 @@ def summed_up(document: Document) -> Iterator[str]:
     if not story.happened:
         yield "\nNothing happens."
     yield from section("Why a takeover was started", story.takeovers)
+    yield from section("The times of a takeover", [line for watch in teller.watches for line in watch.told()])
     yield from section("What was backed out", story.backed_out)
     yield from section("At the end", list(ending(teller.standing)))
     yield from section("What an operator would have seen", [f"tick {at}: {text}" for at, text in story.seen])

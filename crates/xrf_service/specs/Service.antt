@@ -21,8 +21,8 @@ use Rattle.xrf_progress.specs.Takeovers.{CanStart, takeover_acts}
 use Rattle.xrf_progress.specs.InPlace.{IsGranted, start_of}
 
 -- An entry declares the restart of an incarnation at a site, and at that moment the file is the book, so it holds exactly what
--- the committed units put; no unit is in flight; and the terminals are those that the messages of the incarnation it took
--- over tracked, settled, which are those of their sender where it had sent all.
+-- the committed units put; no unit is in flight; and the terminals are those that the messages of the incarnation's epoch
+-- track, settled, which are those of their sender where it had sent all.
 pub record BringsBack (s : Scen) (t : List Entry) (e : Entry) (x : Site) (n : ℕ) : Type 0 where
   pub declares : is_restart_of x n e ≡ true
   pub history : List Event

@@ -34,6 +34,8 @@ class Browser(unittest.TestCase):
         seen = browser.run(page(build(runs.document(runs.TAKEOVER)), "a takeover"), """
             const row = (name) => [...document.querySelectorAll("#standing tr")]
               .filter((it) => it.firstChild.textContent.trim() === name).map((it) => it.lastChild.textContent);
+            gathered.begin = text("line");
+            press("End");
             gathered.end = text("line");
             gathered.fileAtTheEnd = row("1");
             press("Home");
@@ -60,6 +62,7 @@ class Browser(unittest.TestCase):
             gathered.themes = [first, paper()];
         """)
         self.assertEqual(seen["wrong"], [])
+        self.assertEqual(seen["begin"], "before the first of 302 acts")
         self.assertEqual(seen["end"], "ACT 302 32 B 2 RESTARTED")
         self.assertIn("BALANCE-150", seen["fileAtTheEnd"])
         self.assertEqual(seen["home"], "before the first of 302 acts")

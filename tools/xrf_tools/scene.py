@@ -45,7 +45,8 @@ class Row:
 
 @dataclass
 class Span:
-    """What lasts from a row to a row: `kind` says what, `lane` whose, `place` which of several beside each other."""
+    """What lasts from a row to a row: `kind` says what, `lane` whose, `place` which of several beside each other, and
+    `goes_on` that it does not end there."""
 
     kind: str
     lane: str
@@ -55,6 +56,7 @@ class Span:
     how: str = ""
     place: int = 0
     marks: list[int] = field(default_factory=list)
+    goes_on: bool = False
 
 
 @dataclass
@@ -90,7 +92,7 @@ class Building:
             self.spans(step)
         self.flush()
         for span in self.open.values():
-            span.last, span.how = len(self.scene.rows) - 1, span.how or "open"
+            span.last, span.how, span.goes_on = len(self.scene.rows) - 1, span.how or "open", True
         self.scene.spans.sort(key=lambda span: (span.first, span.kind, span.lane))
         return self.scene
 
@@ -232,4 +234,4 @@ def cut_span(span: Span, first: int, last: int) -> Span:
     kept = max(span.first, first), min(span.last, last)
     marks = [row - first for row in span.marks if first <= row <= last]
     how = "open" if goes_on and span.kind != "life" else span.how
-    return replace(span, first=kept[0] - first, last=kept[1] - first, marks=marks, how=how)
+    return replace(span, first=kept[0] - first, last=kept[1] - first, marks=marks, how=how, goes_on=goes_on or span.goes_on)

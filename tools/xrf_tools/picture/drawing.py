@@ -133,7 +133,7 @@ def acts_of(row: Row, plan: Plan, place: int) -> Iterator[str]:
     side = -1 if site == "A" else 1
     x = plan.lines[site]
     for step in row.steps:
-        yield arrow(step.entry.act, site, plan, y)
+        yield arrow(step, site, plan, y)
     left = x - BESIDE * (len(row.steps) - 1) if site == "A" else x
     for count, step in enumerate(row.steps):
         yield f'<g data-k="{step.entry.number}">{mark(step.entry.act, site, left + BESIDE * count, y)}</g>'
@@ -168,8 +168,9 @@ def mark(act: Act, site: str, x: int, y: int) -> str:
     return f'<circle class="mark {site} {css}" cx="{x}" cy="{y}" r="4"/>'
 
 
-def arrow(act: Act, site: str, plan: Plan, y: int) -> str:
+def arrow(step: Step, site: str, plan: Plan, y: int) -> str:
     """A write goes to its data set, a read comes from it."""
+    act = step.entry.act
     name = act.writes or act.reads
     if name not in plan.lines:
         return ""
@@ -179,7 +180,7 @@ def arrow(act: Act, site: str, plan: Plan, y: int) -> str:
         return f'<path class="read {site}" d="M{far} {y}H{near}m{side * 4} -3l{-side * 4} 3l{side * 4} 3"/>'
     css = f"write {site}" if act.how == "made" else "write cut"
     if act.how == "made" or act.landing == "ALL":
-        return f'<path class="{css}" d="M{near} {y}H{far}m{-side * 5} -3l{side * 5} 3l{-side * 5} 3"/>' + value_of(act, plan, y)
+        return f'<path class="{css}" d="M{near} {y}H{far}m{-side * 5} -3l{side * 5} 3l{-side * 5} 3"/>' + value_of(step, plan, y)
     if act.landing == "TORN":
         return torn(act, side, near, far, y)
     short = far - side * 16
@@ -196,22 +197,26 @@ def torn(act: Act, side: int, near: int, far: int, y: int) -> str:
             f'<text class="small landed" x="{far + side * 4}" y="{y - 3}" text-anchor="{anchor}">{text}</text>')
 
 
-def value_of(act: Act, plan: Plan, y: int) -> str:
+def value_of(step: Step, plan: Plan, y: int) -> str:
     """What a write of the file leaves there."""
-    if act.verb != "FILEWRITE":
+    act = step.entry.act
+    if act.verb not in ("FILEWRITE", "UNDO"):
         return ""
-    text = cut(f"{act.words['record']} {act.words['value']}", 14)
+    record = act.words["record"]
+    value = act.words.get("value", step.changes.get(f"file {record}", ""))
+    text = cut(f"{record} {value or 'empty'}", 14)
     return f'<text class="small" x="{plan.lines["FILE"] + 5}" y="{y + 4}">{escape(text)}</text>'
 
 
 def heads(scene: Scene, plan: Plan) -> str:
     """The names above the lanes, as an SVG of its own."""
-    applid = scene.document.scenario.applid
+    scenario = scene.document.scenario
     drawn = [f'<text class="head" x="{GUTTER - 8}" y="26" text-anchor="end">act</text>']
     for name, x in plan.lines.items():
         if name in "AB":
+            level = f", level {scenario.level[name]}" if scenario.format == 2 else ""
             anchor, at = ("end", x + 5) if name == "A" else ("start", x - 5)
-            drawn.append(f'<text class="head {name}" x="{at}" y="26" text-anchor="{anchor}">{applid[name]} at site {name}</text>')
+            drawn.append(f'<text class="head {name}" x="{at}" y="26" text-anchor="{anchor}">{scenario.applid[name]} at site {name}{level}</text>')
         else:
             drawn.append(f'<text class="head" x="{x}" y="26" text-anchor="middle">{NAMES[name]}</text>')
     box = f'width="{plan.width}" height="{HEAD}" viewBox="0 0 {plan.width} {HEAD}"'

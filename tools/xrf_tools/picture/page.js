@@ -66,6 +66,7 @@
     const [, last, owner, alternate, taking] = /^(\S+) OWNER (\S+) ALT (\S+) TAKING (\S+)/.exec(stands.get("control"));
     const css = fresh.has("control") ? "new" : "";
     return [["owner", owner, css], ["alternate", alternate, css], ["taking", taking, css], ["last number", last, css],
+      ...(/ FORMAT (\S+)$/.exec(stands.get("control")) || []).slice(1).map((format) => ["format", format, css]),
       ...one(stands, fresh, "reserve", "reserve"), ...one(stands, fresh, "confirmed", "confirmed"),
       ...under(stands, fresh, "signal ").map(([name, value, css2]) => [`signal ${name}`, value, css2])];
   };
@@ -104,9 +105,11 @@
     show();
     history.replaceState(null, "", now > 0 ? `#act=${now}` : location.pathname + location.search);
     if (!follow) return;
-    const y = now > 0 ? data.acts[now - 1][2] : 0;
+    const [, , y, , , x] = now > 0 ? data.acts[now - 1] : [, , 0, , , 0];
     const seen = picture.scrollTop + 40 < y && y < picture.scrollTop + picture.clientHeight - 60;
     if (!seen) picture.scrollTop = y - picture.clientHeight / 2;
+    const beside = picture.scrollLeft + 60 < x && x < picture.scrollLeft + picture.clientWidth - 60;
+    if (!beside) picture.scrollLeft = x - picture.clientWidth / 2;
   };
 
   // The last act of the tick before, or the first of the next.
@@ -163,5 +166,5 @@
   picture.addEventListener("mouseleave", () => { hover.hidden = true; });
 
   const asked = /^#act=(\d+)$/.exec(location.hash);
-  go(asked ? Number(asked[1]) : count, Boolean(asked));
+  go(asked ? Number(asked[1]) : 0, Boolean(asked));
 })();

@@ -35,11 +35,9 @@ class Plan:
 
     def reach(self, span: Span) -> tuple[int, int]:
         """The first and last y of a span; one that is open reaches the end of the picture."""
-        last = self.height if span.how == "open" or self.is_to_the_end(span) else self.middle(span.last)
+        is_to_the_end = span.how == "open" or span.kind == "life" and span.goes_on
+        last = self.height if is_to_the_end else self.middle(span.last)
         return self.middle(span.first), max(last, self.middle(span.first) + 4)
-
-    def is_to_the_end(self, span: Span) -> bool:
-        return span.kind == "life" and span.last == len(self.tops) - 1
 
 
 def lane(scene: Scene, site: str) -> int:

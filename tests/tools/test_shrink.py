@@ -44,8 +44,7 @@ class Lines(unittest.TestCase):
 class Shrunk(unittest.TestCase):
     def shrunk(self, path: Path, *words: str) -> str:
         status, text, said = call("shrink", str(path), *words)
-        self.assertEqual(status, 0)
-        self.assertRegex(said, r"^xrf: \d+ scenarios were tried\n$")
+        self.assertEqual((status, said), (0, ""))
         return text
 
     def test_what_is_kept_stands_there_and_each_line_is_wanted(self) -> None:

@@ -37,7 +37,6 @@ class Shrinking:
     name: str
     holds: Holds
     lines: list[str]
-    tries: int = 0
     failed: set[str] = field(default_factory=set)
 
     def keeps(self, lines: list[str]) -> bool:
@@ -46,7 +45,6 @@ class Shrinking:
             text = joined(lines)
             if text in self.failed:
                 return False
-            self.tries += 1
             answer = written(text, self.name)
             if self.holds(answer):
                 self.lines = lines

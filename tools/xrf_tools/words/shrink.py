@@ -6,7 +6,7 @@ import argparse
 from typing import TYPE_CHECKING
 
 from xrf_tools.document import read_text
-from xrf_tools.output import say, write
+from xrf_tools.output import write
 from xrf_tools.shrinking import Shrinking, wanted
 from xrf_tools.source import name_of, written
 
@@ -27,5 +27,4 @@ def run(given: argparse.Namespace) -> int:
     lines = text.split("\n")
     shrinking = Shrinking(name, wanted(written(text, name), given.keep, name), lines[:-1] if lines[-1] == "" else lines)
     write(shrinking.shrink())
-    say(f"{shrinking.tries} scenarios were tried")
     return 0

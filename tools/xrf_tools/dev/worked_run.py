@@ -28,7 +28,7 @@ TOP = Path(__file__).resolve().parents[3]
 RUNS = TOP / "tests/runs"
 CRATES = TOP / "crates"
 # from so many acts on, what is promised is proved part by part; and a run is long, and stands in a crate of its own
-IN_PARTS, LONG = 130, 300
+IN_PARTS, LONG = 80, 300
 
 
 class Acts:
@@ -158,7 +158,12 @@ def functions(runs: Sequence[Run], are_long: bool) -> str:
     return text
 
 
-PARTS = ("OneOwner", "UnitsAreItems", "ItemsSeeBook", "TerminalsAreTold", "NextIsDue", "StartsAsWritten")
+PARTS = (
+    "OneOwner", "UnitsAreItems", "ItemsSeeBook", "TerminalsAreTold", "JobsAct", "ReserveIsHeld", "ByPurpose", "LinesAsListed",
+    "RoundsAreWhole", "OwnersDecide", "StopsWhenDue", "ItemsInOrder", "BookAtRest", "CutsAsMay",
+)
+# What is said of the trace alone.
+OF_TRACE = ("CutsAsMay",)
 
 
 def answers(run: Run) -> str:
@@ -174,7 +179,8 @@ def answers(run: Run) -> str:
     own = f"use Rattle.xrf_examples.specs.{camel(run.name)}.{{scenario, trace}}"
     uses = [*(f"use Rattle.xrf_trace.specs.{part}.{{{part}}}" for part in PARTS), own, *uses]
     for field, part in fields.items():
-        lemmas += [f"{field} : {part} scenario trace", f"{field} = assumption", ""]
+        of = "trace" if part in OF_TRACE else "scenario trace"
+        lemmas += [f"{field} : {part} {of}", f"{field} = assumption", ""]
     record = ["returns-clause-keeps c = record {", *(f"  {field} = {field};" for field in fields), "}", ""]
     return "\n".join([*head, *uses, *lemmas, *tail, *record])
 

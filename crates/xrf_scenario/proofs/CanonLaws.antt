@@ -44,23 +44,23 @@ six-say count so s1 s2 s3 s4 s5 last a b c d e f says-a says-b says-c says-d say
     let abcde = more-say count so (a ++ b ++ c ++ d) e s4 s5 abcd says-e in
     more-say count so (a ++ b ++ c ++ d ++ e) f s5 last abcde says-f
 
--- what the lines of a scenario say: all of it, and no choices
-record IsSpoken (s : Scen) : Type 0 where
-  last : SoFar
-  says : SaysAll 0 nothing_said (scenario_lines s) last
-  before : last.section ≡ section.Settings
-  within : are_within last ≡ true
-  none : last.choices ≡ []
-  scenario : scenario_of last ≡ s
+-- what the lines of a scenario say behind so many lines: all of it, and no choices
+pub record IsSpoken (count : ℕ) (s : Scen) : Type 0 where
+  pub last : SoFar
+  pub says : SaysAll count nothing_said (scenario_lines s) last
+  pub before : last.section ≡ section.Settings
+  pub within : are_within last ≡ true
+  pub none : last.choices ≡ []
+  pub scenario : scenario_of last ≡ s
 
 -- what is written of a scenario says it
-spoken : (s : Scen) → IsScen s → IsSpoken s
-spoken s is =
+pub spoken : (count : ℕ) (s : Scen) → IsScen s → IsSpoken count s
+spoken count s is =
     let format : Format = s.settings.format in
     let s1 : SoFar = begun nothing_said format in
     let s2 : SoFar = with_given s1 (given_of format s.settings) in
     let settings : List (List ℕ) = map line_text (setting_lines s.settings) in
-    let records = records-say (1 + length settings) s2 s.settings.file s.records refl (file-most s is) is.records in
+    let records = records-say (count + 1 + length settings) s2 s.settings.file s.records refl (file-most s is) is.records in
     let s3 : SoFar = with_places s2 records.last in
     let s4 : SoFar = with_clt s3 s.clt in
     let s5 : SoFar = with_work_a s4 s.work_a in
@@ -73,9 +73,9 @@ spoken s is =
       says = (
         s1,
         (
-          header-written 1 nothing_said format refl,
-          six-say 1 s1 s2 s3 s4 s5 s6 s7 settings (record_lines s.records) (clt_lines s.clt) work_a work_b (plan_lines s.plan)
-              (settings-say 1 s1 s.settings refl (lines-are s.settings is.settings)) records.says
+          header-written (count + 1) nothing_said format refl,
+          six-say (count + 1) s1 s2 s3 s4 s5 s6 s7 settings (record_lines s.records) (clt_lines s.clt) work_a work_b (plan_lines s.plan)
+              (settings-say (count + 1) s1 s.settings refl (lines-are s.settings is.settings)) records.says
               (λ (n : ℕ). clt-say n s3 s.clt refl is.clt is.clt_few)
               (λ (n : ℕ). work_a-say n s4 s.work_a refl is.work_a is.work_a_few)
               (λ (n : ℕ). work_b-say n s5 s.work_b refl is.work_b is.work_b_few)
@@ -110,7 +110,7 @@ written-lines s choices report scen are is =
 -- What is written of a scenario and its choices is read again as the same, also with a report behind it.
 pub read_again : ReadAgain
 read_again s choices report scen are is =
-    let first = spoken s scen in
+    let first = spoken 0 s scen in
     let count : ℕ = length (scenario_lines s) in
     let last : SoFar = ended first.last (at_lines s choices) in
     let number : 0 + count + 2 ≡ count + 2 = omega arith in

@@ -6,10 +6,10 @@ use Rattle.xrf_scenario.specs.Canonical.{AreChoices}
 use Rattle.xrf_scenario.specs.Outcomes.{Gives, IsBad}
 use Rattle.xrf_scenario.specs.Machine.{read_on, read_whole, step}
 use Rattle.xrf_scenario.specs.Reading.{Reads}
-use Rattle.xrf_scenario.specs.Said.{IsSaid}
+use Rattle.xrf_scenario.specs.Said.{is_past, IsSaid}
 use Rattle.xrf_setup.specs.Scenario.{Scen, IsScen}
 use Rattle.xrf_scenario.specs.Settled.{by_number, scenario_of, settled}
-use Rattle.xrf_scenario.specs.SoFar.{SoFar, is_whole}
+use Rattle.xrf_scenario.specs.SoFar.{SoFar}
 use Rattle.xrf_scenario.specs.declared.numbered.Numbered.{Numbered}
 use Rattle.xrf_scenario.specs.declared.read_bad.ReadBad.{ReadBad}
 use Rattle.xrf_scenario.specs.declared.read_bad.ReadBad.TheVariants as bad
@@ -25,13 +25,13 @@ goes-on so new count line lines e = rw (e, read_on) refl
 
 -- the parts of a reading make a scenario
 pub scenario-held : (so : SoFar) (t : Settings) (records : List (ℕ × List ℕ)) (places : List (Option (List ℕ))) → t ≡ settled so.format so.given → records ≡ by_number 1 places
-    → places ≡ so.records → IsSaid so → is_whole so.section ≡ true
+    → places ≡ so.records → IsSaid so → is_past so.section ≡ true
     → IsScen (record { settings = t; records = records; clt = so.clt; work_a = so.work_a; work_b = so.work_b; plan = so.plan })
-scenario-held so t records places same_settings same_records same_places said whole =
+scenario-held so t records places same_settings same_records same_places said past =
     subst (λ (u : Settings). IsScen (record { settings = u; records = records; clt = so.clt; work_a = so.work_a; work_b = so.work_b; plan = so.plan })) (sym same_settings)
     (subst (λ (rs : List (ℕ × List ℕ)). IsScen (record { settings = settled so.format so.given; records = rs; clt = so.clt; work_a = so.work_a; work_b = so.work_b; plan = so.plan })) (sym same_records)
     (subst (λ (ps : List (Option (List ℕ))). IsScen (record { settings = settled so.format so.given; records = by_number 1 ps; clt = so.clt; work_a = so.work_a; work_b = so.work_b; plan = so.plan })) (sym same_places)
-    (scen-said so said whole)))
+    (scen-said so said past)))
 
 each-choice : (choices : List Numbered) → AllByRecursion (λ (n : Numbered). HasLine n.choice) choices → AllByRecursion HasLine (map (λ (n : Numbered). n.choice) choices)
 each-choice [] all = tt

@@ -351,11 +351,18 @@ records-said (suc room) number most (None ∷ places) sum values all =
 records-said (suc room) number most (Some value ∷ places) sum values all =
     ((omega arith, omega (arith, sum)), values.0, records-said room (number + 1) most places (omega (arith, sum)) values.1 all)
 
--- what is said to the end is a scenario
-pub scen-said : (so : SoFar) → IsSaid so → is_whole so.section ≡ true → IsScen (scenario_of so)
-scen-said so said whole = record {
+-- behind END CHOICES has come
+pub past-whole : (section : Section) → is_whole section ≡ true → is_past section ≡ true
+past-whole Whole e = refl
+past-whole Start e = absurd (cc)
+past-whole Settings e = absurd (cc)
+past-whole Making e = absurd (cc)
+
+-- what is said behind CHOICES is a scenario
+pub scen-said : (so : SoFar) → IsSaid so → is_past so.section ≡ true → IsScen (scenario_of so)
+scen-said so said past = record {
   settings = settings-said so.format so.given said.given;
-  records = records-said (file_said so) 1 (file_said so) so.records (omega arith) said.values (said.within (past so.section whole));
+  records = records-said (file_said so) 1 (file_said so) so.records (omega arith) said.values (said.within past);
   clt = said.clt;
   clt_few = said.clt_few;
   work_a = said.work_a;
@@ -365,9 +372,3 @@ scen-said so said whole = record {
   plan = said.plan;
   plan_few = said.plan_few;
 }
-  where
-    past : (section : Section) → is_whole section ≡ true → is_past section ≡ true
-    past Whole e = refl
-    past Start e = absurd (cc)
-    past Settings e = absurd (cc)
-    past Making e = absurd (cc)

@@ -18,10 +18,14 @@ mod stop;
 mod taking;
 mod text;
 
-pub use canonical::{put_canonical, read_again, settings_are_lines, write};
+pub use canonical::{put_canonical, put_scenario, read_again, settings_are_lines, write};
+pub use lines::{bytes_fault, is_report, is_skipped, next_line};
 pub use numbered::Numbered;
 pub use read_bad::ReadBad;
-pub use text::{one_reading, read};
+pub use reading::Reading;
+pub use section::Section;
+pub use stop::Stop;
+pub use text::{one_reading, read, scenario_of};
 pub use xrf_grammar::Reason;
 pub use xrf_setup::{Choice, Format, Landing, Scenario, Settings, TornBytes};
 

@@ -4,6 +4,7 @@ ghost use Rattle.std.specs.Prelude.{◌≡◌, ◌≤◌, ◌+◌, ℕ, length, 
 ghost use Rattle.xrf_scenario.specs.Lines.{text_lines};
 ghost use Rattle.xrf_scenario.specs.Machine.{read_whole, read_on};
 ghost use Rattle.xrf_scenario.specs.Outcomes.{bad_of, Gives, IsBad};
+ghost use Rattle.xrf_scenario.specs.Said.{is_past};
 ghost use Rattle.xrf_scenario.specs.SoFar.{is_whole};
 ghost use Rattle.xrf_scenario.specs.Reading.{Reads, OneReading, NeverBoth, OneFault};
 ghost use Rattle.xrf_scenario.specs.Canonical.{AreChoices};
@@ -80,7 +81,7 @@ fn by_number(alloc: Global, places: &[Option<Value>]) -> Result<Vec<(u16, Value)
 
 // the scenario and the choices of what is said
 fn parts<'a>(alloc: Global, reading: Reading<'a>) -> Result<(Scenario, Vec<Numbered>), AllocError>
-    requires { is_whole reading.section ≡ true }
+    requires { is_past reading.section ≡ true }
     ensures scenario { IfOk result (λ r. r.0 ≡ scenario_of reading.entry) }
     ensures choices { IfOk result (λ r. r.1.items ≡ reading.entry.choices) }
     ensures lines { IfOk result (λ r. AreChoices (map (λ (n : Numbered). n.choice) r.1.items)) }
@@ -101,6 +102,15 @@ fn parts<'a>(alloc: Global, reading: Reading<'a>) -> Result<(Scenario, Vec<Numbe
     let settings = settled(format, &given);
     let scenario = Scenario::new(settings, records, clt, work_a, work_b, plan);
     Ok((scenario, choices))
+}
+
+/// The scenario that a reading holds behind its line CHOICES.
+pub fn scenario_of<'a>(alloc: Global, reading: Reading<'a>) -> Result<Scenario, AllocError>
+    requires { is_past reading.section ≡ true }
+    ensures { IfOk result (λ scenario. scenario ≡ scenario_of reading.entry) }
+{
+    let (scenario, _) = parts(alloc, reading)?;
+    Ok(scenario)
 }
 
 /// The scenario and the choices that a text spells, each choice with the number of its line; else

@@ -1,5 +1,9 @@
 use Rattle.xrf_scenario.proofs.HeldLaws.{read-found, read-bad}
+use Rattle.xrf_scenario.proofs.SaidLaws.{past-whole}
 use Rattle.xrf_scenario.proofs.text.read.Goals as goal
+
+pub parts-requires : goal.parts-requires
+parts-requires c = past-whole c.in-Ok.reading.section c.in-Ok.ensures.whole
 
 pub returns-in_ok-parts-in-Ok-clause-found : goal.returns-in_ok-parts-in-Ok-clause-found
 returns-in_ok-parts-in-Ok-clause-found c =

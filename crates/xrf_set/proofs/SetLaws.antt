@@ -1,11 +1,10 @@
 -- A set text is read in one way, no text is both read and refused, and it is refused in one way.
-use Rattle.std.proofs.Common.{◌≡◌, ◌⊎◌, inl, inr, ℕ, suc, ◌+◌, false, true, List, [], ◌∷◌, ◌++◌, length, Result, Ok, Err, refl, sym, ◌∙◌, ap, subst, arith}
+use Rattle.std.proofs.Common.{◌≡◌, inl, inr, ℕ, suc, ◌+◌, List, [], ◌∷◌, ◌++◌, length, Result, Ok, Err, refl, sym, ◌∙◌, ap, subst, arith}
 use Rattle.std.proofs.lemmas.Grind.{common_steps}
 use Rattle.xrf_grammar.specs.declared.reason.Reason.{Reason}
 use Rattle.xrf_scenario.specs.Lines.{text_lines}
-use Rattle.xrf_setup.specs.Scenario.{Scen}
 use Rattle.xrf_set.specs.Machine.{set_step}
-use Rattle.xrf_set.specs.Reading.{SetSays, ReadsSet, HasBadSetLine, SetEndsEarly, HasBadSet, OneSet, NeverBothSet, OneBadSet}
+use Rattle.xrf_set.specs.Reading.{SetSays, HasBadSetLine, OneSet, NeverBothSet, OneBadSet}
 use Rattle.xrf_set.specs.SetSoFar.{SetSoFar, nothing_set, head_of, is_closed}
 use Rattle.xrf_set.specs.declared.set_line.SetKind.{SetKind}
 

@@ -1,0 +1,3 @@
+pub mod Orders
+pub mod Group
+pub mod Theorem

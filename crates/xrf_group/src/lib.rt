@@ -1,0 +1,6 @@
+//! A coordinator and its dependents: several pairs, of which the first orders the takeovers of the others.
+#![tactic(auto)]
+
+mod laws;
+
+pub use laws::groups_keep;

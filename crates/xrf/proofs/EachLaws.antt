@@ -15,7 +15,7 @@ use Rattle.xrf_scenario.specs.SoFar.{SoFar, nothing_said}
 use Rattle.xrf_scenario.specs.declared.numbered.Numbered.{Numbered}
 use Rattle.xrf_scenario.proofs.HeldLaws.{choices-held}
 use Rattle.xrf_scenario.proofs.ReadingLaws.{whole-bad, whole-reads, says-step}
-use Rattle.xrf_scenario.proofs.SaidLaws.{nothing-said, scen-said, step-said}
+use Rattle.xrf_scenario.proofs.SaidLaws.{nothing-said, past-whole, scen-said, step-said}
 use Rattle.xrf_trace.specs.declared.entry.Entry.{Entry}
 use Rattle.xrf_trace.specs.Runs.{Refusal as Stopped, run}
 use Rattle.xrf_trace.proofs.RunLaws.{refusals_are_first}
@@ -37,7 +37,7 @@ all-said count so last (line ∷ lines) said h =
 spelled-whole : (bytes : List ℕ) (s : Scen) (choices : List Numbered) → Reads bytes s choices → IsScen s × AreChoices (plain choices)
 spelled-whole bytes s choices r =
     let said : IsSaid r.last = all-said 0 nothing_said r.last (text_lines bytes) nothing-said r.said in
-    (subst IsScen (sym r.scenario) (scen-said r.last said r.whole), choices-held r.last choices r.made said)
+    (subst IsScen (sym r.scenario) (scen-said r.last said (past-whole r.last.section r.whole)), choices-held r.last choices r.made said)
 
 -- a choice that is there has a line
 numbered-there : (numbered : List Numbered) (k : ℕ) (c : Choice) → slice_get (plain numbered) k ≡ Some c → (n : Numbered) × (slice_get numbered k ≡ Some n)
